@@ -1,0 +1,29 @@
+-- Tags as numbers. A tag is seen as the writer of a word: a memory step of a thread, or nobody for the initial contents.
+use Rattle.std.specs.Prelude.{◌≡◌, ℕ, zero, suc, ◌+◌, ◌-◌, ◌*◌, ◌/◌, ◌%◌, ◌^◌, ◌<◌, ◌≤◌, ◌⊎◌, Option, Some, None, refl}
+use Rattle.std.proofs.Common.{arith, inl, inr}
+use Rattle.light_base.specs.declared.tag.Event.{Event}
+
+-- the number of a tag: 0 for the initial contents, else the thread's number plus 1 in the high four bits and the step in the low 28
+abbrev pub bits_of : Option Event → ℕ
+bits_of None = 0
+bits_of (Some event) = (event.thread + 1) * 2 ^ 28 + event.step
+
+-- an event that has a tag
+pub record HasTag (event : Event) : Type 0 where
+  pub thread : event.thread ≤ 14
+  pub first : 1 ≤ event.step
+  pub last : event.step < 2 ^ 28
+
+-- the writer that a number names
+abbrev pub writer_of : ℕ → Option Event
+writer_of zero = None
+writer_of (suc n) = Some record { thread = suc n / 2 ^ 28 - 1; step = suc n % 2 ^ 28 }
+
+-- the number is a tag's: both parts are 0, or neither is
+abbrev pub IsTag : ℕ → Type 0
+IsTag bits = (bits ≡ 0) ⊎ ((2 ^ 28 ≤ bits) × (0 < bits % 2 ^ 28))
+
+pub bits_of-writer_of : (n : ℕ) → IsTag n → bits_of (writer_of n) ≡ n
+bits_of-writer_of zero h = refl
+bits_of-writer_of (suc n) (inl e) = omega (arith, e)
+bits_of-writer_of (suc n) (inr h) = omega (arith, h.0)
