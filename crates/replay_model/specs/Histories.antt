@@ -59,7 +59,7 @@ IsWhole threads world = (t : ℕ) → t < length world.threads → has_ended (wa
 unfoldable pub history_of : Threads → List ℕ → World → List ℕ
 history_of threads [] world = []
 history_of threads (t ∷ turns) world =
-    cond (has_ended (wanted threads t world)) (history_of threads turns world) (t ∷ history_of threads turns (move threads keep_all t world))
+    cond (has_ended (wanted threads t world)) [] (t ∷ []) ++ history_of threads turns (move threads keep_all t world)
 
 -- so many rounds, in each of which the threads 0, 1, 2 and so on have one turn
 unfoldable pub round_turns : ℕ → ℕ → List ℕ

@@ -1,5 +1,5 @@
 -- The log of one thread: which write each of its reads saw.
-use Rattle.std.specs.Prelude.{ℕ, ◌+◌, Bool, true, false, cond, ◌&&◌, ◌||◌, eqb, nat_le, max, Option, Some, None, List, [], ◌∷◌, ◌++◌, length}
+use Rattle.std.specs.Prelude.{ℕ, ◌+◌, Bool, false, cond, ◌&&◌, eqb, nat_le, max, Option, Some, None, List, [], ◌∷◌, ◌++◌, length}
 use Rattle.replay_model.specs.Steps.{Tag, Cell, Step, same_tag, word_of}
 pub use Rattle.replay_model.specs.declared.Entry.{Entry}
 
@@ -15,7 +15,7 @@ saw word tag step = is_sight word tag (word_of step.want) step.found
 -- the numbers of the steps that found this tag in this word; n is the number of the first step of the list
 abbrev pub numbers : ℕ → Tag → ℕ → List Step → List ℕ
 numbers word tag n [] = []
-numbers word tag n (step ∷ steps) = cond (saw word tag step) (n ∷ numbers word tag (n + 1) steps) (numbers word tag (n + 1) steps)
+numbers word tag n (step ∷ steps) = cond (saw word tag step) (n ∷ []) [] ++ numbers word tag (n + 1) steps
 
 -- the least of numbers that rise
 abbrev pub least : List ℕ → ℕ

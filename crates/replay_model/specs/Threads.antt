@@ -1,6 +1,6 @@
 -- Threads as functions of what they did: what a thread wants next follows from its memory steps so far.
 use Rattle.std.specs.Prelude.{◌≡◌, ℕ, ◌<◌, ◌≤◌, true, false, List, length, take, slice_index_or, is_some}
-use Rattle.replay_model.specs.Steps.{Step, Want, End, Ended, word_of, has_ended, reads}
+use Rattle.replay_model.specs.Steps.{Step, Want, Ended, word_of, has_ended, reads}
 use Rattle.replay_model.specs.declared.End.TheVariants.{Halted}
 use Rattle.std.specs.Prelude.{None}
 
