@@ -11,3 +11,4 @@ pub mod Orders
 pub mod Fitting
 pub mod SkipPlay
 pub mod MoreReads
+pub mod WholeHistories

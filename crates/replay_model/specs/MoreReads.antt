@@ -6,7 +6,7 @@ use Rattle.replay_model.specs.ThreadLogs.{Entry}
 
 -- whether the entry is that of this word and tag
 abbrev pub is_entry_for : ℕ → Tag → Entry → Bool
-is_entry_for word tag entry = eqb entry.word word && same_tag entry.source tag
+is_entry_for word tag entry = eqb word entry.word && same_tag tag entry.source
 
 -- the entry after step n found this tag in this word
 abbrev pub touched : ℕ → Tag → ℕ → Entry → Entry
