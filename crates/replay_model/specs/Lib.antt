@@ -12,3 +12,4 @@ pub mod Fitting
 pub mod SkipPlay
 pub mod MoreReads
 pub mod WholeHistories
+pub mod KeptLimits
