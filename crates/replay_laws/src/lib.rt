@@ -1,0 +1,23 @@
+//! The laws of recording and replaying, over threads as functions of their steps. Each function here does nothing: its
+//! contract is the law, which a caller has after the call.
+#![tactic(auto)]
+
+ghost use Rattle.replay_laws.specs.BridgeLaws.{WordStepsAreAHistory};
+ghost use Rattle.replay_laws.specs.StepLaws.{OneMoreRead, OneMoreWrite, OneMoreStep, OneMoreOfItsThread};
+
+/// Steps at the words, whose parts are runs of the threads to their ends, are a whole history with these very steps.
+pub fn bridge_law()
+    ensures { WordStepsAreAHistory }
+{}
+
+/// What one more step does to the log of its thread.
+pub fn read_law()
+    ensures read { OneMoreRead }
+    ensures write { OneMoreWrite }
+{}
+
+/// What one more step does to a list of steps at the words.
+pub fn word_step_law()
+    ensures folds { OneMoreStep }
+    ensures part { OneMoreOfItsThread }
+{}
