@@ -4,3 +4,6 @@ pub mod Skip
 pub mod NextSteps
 pub mod Advance
 pub mod Turns
+pub mod Told
+pub mod Shown
+pub mod Sound

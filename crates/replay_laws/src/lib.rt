@@ -3,6 +3,7 @@
 #![tactic(auto)]
 
 ghost use Rattle.replay_laws.specs.BridgeLaws.{WordStepsAreAHistory};
+ghost use Rattle.replay_laws.specs.SkipLaws.{SkipPlayShowsTheRuns, FittingRunsAreUnique};
 ghost use Rattle.replay_laws.specs.StepLaws.{OneMoreRead, OneMoreWrite, OneMoreStep, OneMoreOfItsThread};
 
 /// Steps at the words, whose parts are runs of the threads to their ends, are a whole history with these very steps.
@@ -20,4 +21,11 @@ pub fn read_law()
 pub fn word_step_law()
     ensures folds { OneMoreStep }
     ensures part { OneMoreOfItsThread }
+{}
+
+/// Where runs fit a log and an order respects it, the skip play gives these runs, each word's last tag, and the value
+/// that this tag names.
+pub fn skip_law()
+    ensures shows { SkipPlayShowsTheRuns }
+    ensures unique { FittingRunsAreUnique }
 {}

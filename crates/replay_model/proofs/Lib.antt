@@ -3,3 +3,4 @@ pub mod Moves
 pub mod ThreadLogs
 pub mod MoreReads
 pub mod WordSteps
+pub mod RunLogs
