@@ -7,3 +7,5 @@ pub mod Turns
 pub mod Told
 pub mod Shown
 pub mod Sound
+pub mod Endings
+pub mod Verdict

@@ -3,7 +3,7 @@
 #![tactic(auto)]
 
 ghost use Rattle.replay_laws.specs.BridgeLaws.{WordStepsAreAHistory};
-ghost use Rattle.replay_laws.specs.SkipLaws.{SkipPlayShowsTheRuns, FittingRunsAreUnique};
+ghost use Rattle.replay_laws.specs.SkipLaws.{SkipPlayShowsTheRuns, FittingRunsAreUnique, SkippedRunsFit, VerdictIsExact, VerdictIsTheSame};
 ghost use Rattle.replay_laws.specs.StepLaws.{OneMoreRead, OneMoreWrite, OneMoreStep, OneMoreOfItsThread};
 
 /// Steps at the words, whose parts are runs of the threads to their ends, are a whole history with these very steps.
@@ -28,4 +28,11 @@ pub fn word_step_law()
 pub fn skip_law()
     ensures shows { SkipPlayShowsTheRuns }
     ensures unique { FittingRunsAreUnique }
+{}
+
+/// Under an order that respects a log, the state after the skip play has the log exactly where some runs fit it.
+pub fn verdict_law()
+    ensures fits { SkippedRunsFit }
+    ensures exact { VerdictIsExact }
+    ensures same { VerdictIsTheSame }
 {}
