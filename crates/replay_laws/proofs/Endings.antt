@@ -1,6 +1,6 @@
 -- Threads that go on long enough end, and then stay as they are.
 use Rattle.std.proofs.Common.{◌≡◌, ℕ, zero, suc, ◌+◌, ◌-◌, ◌<◌, ◌≤◌, Bool, true, false, List, [], ◌∷◌, length, refl, sym, ◌∙◌, ap, subst, arith, inl, inr, ◌⊎◌}
-use Rattle.std.specs.Prelude.{Option}
+use Rattle.std.specs.Prelude.{◌≢◌}
 use Rattle.std.proofs.lemmas.Bool.{cases_eq, cases_Bool}
 use Rattle.replay_model.specs.Steps.{Event, Step, has_ended}
 use Rattle.replay_model.specs.Threads.{Threads, EndsWithin}
@@ -76,4 +76,4 @@ finish_ends threads keep bound (suc t) world stops l u ul = go (finish_ends thre
             has_ended (wanted threads t (moves threads keep bound t before)) ≡ true
         at (inl d) = d
         at (inr g) = stops t (steps_of (moves threads keep bound t before).threads t) (omega arith)
-    go ih (inr n) = ap (λ (x : List Step). has_ended (threads u x)) (moves_there threads keep bound t u before n) ∙ ih (let ne : Rattle.std.specs.Prelude.◌≢◌ u t = n in omega arith)
+    go ih (inr n) = ap (λ (x : List Step). has_ended (threads u x)) (moves_there threads keep bound t u before n) ∙ ih (let ne : u ≢ t = n in omega arith)

@@ -9,3 +9,6 @@ pub mod Shown
 pub mod Sound
 pub mod Endings
 pub mod Verdict
+pub mod History
+pub mod CellAfter
+pub mod FilterPlaces
