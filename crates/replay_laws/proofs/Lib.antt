@@ -12,3 +12,4 @@ pub mod Verdict
 pub mod History
 pub mod CellAfter
 pub mod FilterPlaces
+pub mod Linear
