@@ -13,3 +13,5 @@ pub mod History
 pub mod CellAfter
 pub mod FilterPlaces
 pub mod Linear
+pub mod LinearReads
+pub mod LinearOrder
