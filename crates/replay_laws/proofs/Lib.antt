@@ -15,3 +15,4 @@ pub mod FilterPlaces
 pub mod Linear
 pub mod LinearReads
 pub mod LinearOrder
+pub mod HistoryLog

@@ -3,6 +3,7 @@
 #![tactic(auto)]
 
 ghost use Rattle.replay_laws.specs.BridgeLaws.{WordStepsAreAHistory};
+ghost use Rattle.replay_laws.specs.HistoryLaws.{RunsFitTheirLog, HistoryShowsItsRuns, HistoryRespectsItsLog, ReplayEndsAsTheHistory};
 ghost use Rattle.replay_laws.specs.SkipLaws.{SkipPlayShowsTheRuns, FittingRunsAreUnique, SkippedRunsFit, VerdictIsExact, VerdictIsTheSame};
 ghost use Rattle.replay_laws.specs.StepLaws.{OneMoreRead, OneMoreWrite, OneMoreStep, OneMoreOfItsThread};
 
@@ -35,4 +36,13 @@ pub fn verdict_law()
     ensures fits { SkippedRunsFit }
     ensures exact { VerdictIsExact }
     ensures same { VerdictIsTheSame }
+{}
+
+/// The runs of a whole history fit its log; each word ends with the value that its last tag names; the events of the log,
+/// in the history's order, respect it; and a replay of the log by any order that respects it ends as the history did.
+pub fn history_law()
+    ensures fits { RunsFitTheirLog }
+    ensures shows { HistoryShowsItsRuns }
+    ensures respects { HistoryRespectsItsLog }
+    ensures replayed { ReplayEndsAsTheHistory }
 {}
