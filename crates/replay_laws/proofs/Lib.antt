@@ -16,3 +16,5 @@ pub mod Linear
 pub mod LinearReads
 pub mod LinearOrder
 pub mod HistoryLog
+pub mod WellFormedLog
+pub mod Rounds

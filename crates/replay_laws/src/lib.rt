@@ -3,7 +3,7 @@
 #![tactic(auto)]
 
 ghost use Rattle.replay_laws.specs.BridgeLaws.{WordStepsAreAHistory};
-ghost use Rattle.replay_laws.specs.HistoryLaws.{RunsFitTheirLog, HistoryShowsItsRuns, HistoryRespectsItsLog, ReplayEndsAsTheHistory};
+ghost use Rattle.replay_laws.specs.HistoryLaws.{RunsFitTheirLog, HistoryShowsItsRuns, HistoryRespectsItsLog, ReplayEndsAsTheHistory, HistoryLogIsWellFormed, TurnsAreAHistory, RoundsAreWhole, FollowIsWhole};
 ghost use Rattle.replay_laws.specs.SkipLaws.{SkipPlayShowsTheRuns, FittingRunsAreUnique, SkippedRunsFit, VerdictIsExact, VerdictIsTheSame};
 ghost use Rattle.replay_laws.specs.StepLaws.{OneMoreRead, OneMoreWrite, OneMoreStep, OneMoreOfItsThread};
 
@@ -45,4 +45,16 @@ pub fn history_law()
     ensures shows { HistoryShowsItsRuns }
     ensures respects { HistoryRespectsItsLog }
     ensures replayed { ReplayEndsAsTheHistory }
+{}
+
+/// The log of a whole history is well formed, where the threads keep to the limits.
+pub fn log_law()
+    ensures { HistoryLogIsWellFormed }
+{}
+
+/// Turns, with the threads that have ended passed over, are a legal history; with rounds of turns after them, a whole one.
+pub fn turns_law()
+    ensures turns { TurnsAreAHistory }
+    ensures rounds { RoundsAreWhole }
+    ensures follow { FollowIsWhole }
 {}

@@ -4,3 +4,4 @@ pub mod ThreadLogs
 pub mod MoreReads
 pub mod WordSteps
 pub mod RunLogs
+pub mod EntryOrder
