@@ -18,3 +18,4 @@ pub mod LinearOrder
 pub mod HistoryLog
 pub mod WellFormedLog
 pub mod Rounds
+pub mod Scripts
