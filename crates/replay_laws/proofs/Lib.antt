@@ -19,3 +19,4 @@ pub mod HistoryLog
 pub mod WellFormedLog
 pub mod Rounds
 pub mod Scripts
+pub mod Examples
