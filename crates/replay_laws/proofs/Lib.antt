@@ -19,4 +19,4 @@ pub mod HistoryLog
 pub mod WellFormedLog
 pub mod Rounds
 pub mod Scripts
-pub mod Examples
+pub mod WorkedExamples

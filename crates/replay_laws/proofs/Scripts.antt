@@ -12,7 +12,7 @@ use Rattle.replay_model.specs.Histories.{steps_of}
 use Rattle.replay_model.specs.ThreadLogs.{is_full}
 use Rattle.replay_model.specs.Logs.{Limits}
 use Rattle.replay_model.specs.KeptLimits.{KeepsLimits}
-use Rattle.replay_laws.specs.Scripts.{Script, silent, cells_found, guarded, script_threads, one_each}
+use Rattle.replay_laws.specs.Scripts.{Script, silent, cells_found, guarded, script_threads, one_each, ScriptsMeetThePremises}
 
 -- the cases of the guard
 pub guard_cases : (size : ℕ) (limits : Limits) (steps : List Step) (want : Want) (P : Want → Type 0) →
@@ -81,3 +81,6 @@ module _ (scripts : List Script) (size : ℕ) (limits : Limits) where
           let ended : has_ended (script_threads scripts size limits t (take limits.steps steps)) ≡ true = script_ends t (take limits.steps steps) (omega (arith, k)) in
           let lives : has_ended (script_threads scripts size limits t (take limits.steps steps)) ≡ false = ap has_ended (run.wants limits.steps x) ∙ run.lives limits.steps x in
           let z : true ≡ false = sym ended ∙ lives in cc z
+
+pub scripts_meet : ScriptsMeetThePremises
+scripts_meet scripts size limits = (script_within scripts size limits, script_only scripts size limits, script_ends scripts size limits, script_keeps scripts size limits)

@@ -1,12 +1,13 @@
 -- A small machine for examples: what a thread wants next follows from the cells that its steps found.
-use Rattle.std.specs.Prelude.{ℕ, ◌&&◌, cond, nat_le, List, length, map, slice_index_or, unwrap_or}
+use Rattle.std.specs.Prelude.{ℕ, ◌&&◌, ◌≤◌, cond, nat_le, List, length, map, slice_index_or, unwrap_or}
 use Rattle.replay_model.specs.Steps.{Cell, Step, word_of, has_ended, reads, no_cell}
 use Rattle.replay_model.specs.declared.Want.{Want}
 use Rattle.replay_model.specs.declared.Want.TheVariants.{Ended}
 use Rattle.replay_model.specs.declared.End.TheVariants.{Halted, BadAddress, StepsSpent, EntriesFull}
-use Rattle.replay_model.specs.Threads.{Threads}
+use Rattle.replay_model.specs.Threads.{Threads, StaysWithin, HasOnly, EndsWithin}
 use Rattle.replay_model.specs.ThreadLogs.{is_full}
 use Rattle.replay_model.specs.Logs.{Limits}
+use Rattle.replay_model.specs.KeptLimits.{KeepsLimits}
 use Rattle.replay_model.specs.RunLogs.{Instructions}
 
 -- what a thread wants next, by what each of its steps found, the empty cell for a store
@@ -35,3 +36,10 @@ script_threads scripts size limits t steps = guarded size limits steps (slice_in
 -- each step counts as one instruction
 abbrev pub one_each : Instructions
 one_each t steps = length steps
+
+-- such threads never ask for a word that is not there, are no more than their scripts, end within the limit of steps, and keep to the other limits
+abbrev pub ScriptsMeetThePremises : Type 0
+ScriptsMeetThePremises = (scripts : List Script) (size : ℕ) (limits : Limits) →
+    StaysWithin (script_threads scripts size limits) size × HasOnly (script_threads scripts size limits) (length {A = Script} scripts) ×
+    EndsWithin (script_threads scripts size limits) limits.steps ×
+    (limits.steps ≤ limits.instr → KeepsLimits (script_threads scripts size limits) one_each size limits)

@@ -2,6 +2,8 @@
 //! contract is the law, which a caller has after the call.
 #![tactic(auto)]
 
+pub mod examples;
+
 ghost use Rattle.replay_laws.specs.BridgeLaws.{WordStepsAreAHistory};
 ghost use Rattle.replay_laws.specs.HistoryLaws.{RunsFitTheirLog, HistoryShowsItsRuns, HistoryRespectsItsLog, ReplayEndsAsTheHistory, HistoryLogIsWellFormed, TurnsAreAHistory, RoundsAreWhole, FollowIsWhole};
 ghost use Rattle.replay_laws.specs.SkipLaws.{SkipPlayShowsTheRuns, FittingRunsAreUnique, SkippedRunsFit, VerdictIsExact, VerdictIsTheSame};
