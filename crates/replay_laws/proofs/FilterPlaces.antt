@@ -1,5 +1,5 @@
 -- Places in the part of an order that passes a test.
-use Rattle.std.proofs.Common.{◌≡◌, zero, suc, ◌<◌, ◌≤◌, Bool, true, false, cond, List, [], ◌∷◌, length, refl, sym, ◌∙◌, ap, subst, arith, inl, inr, ◌⊎◌}
+use Rattle.std.proofs.Common.{◌≡◌, zero, suc, ◌<◌, ◌≤◌, Bool, true, false, cond, List, [], ◌∷◌, length, sym, ◌∙◌, ap, subst, arith, inl, inr, ◌⊎◌}
 use Rattle.std.specs.Prelude.{Contains, filter}
 use Rattle.std.proofs.lemmas.List.{get_or_default}
 use Rattle.std.proofs.lemmas.List.Elements.{filter_passes, All-contains}
@@ -99,4 +99,3 @@ once_filter p (x ∷ xs) once = go (once_filter p xs (once_next x xs once)) (cas
             let (k, l, h) = Contains-filter p xs x c in
             once 0 (suc k) x (omega arith) (omega arith) (sym h)
         new (suc i) (suc j) d ij jl = ih i j d (omega arith) (omega arith)
-

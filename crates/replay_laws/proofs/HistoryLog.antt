@@ -1,18 +1,17 @@
 -- The log of a whole history: its runs fit it, and its events respect it; a replay of it ends as the history did.
-use Rattle.std.proofs.Common.{◌≡◌, ℕ, ◌<◌, List, [], length, map, refl, sym, ◌∙◌, ap, subst, arith}
+use Rattle.std.proofs.Common.{◌≡◌, ℕ, ◌<◌, List, length, map, refl, sym, ◌∙◌, ap, arith}
 use Rattle.std.specs.Prelude.{slice_index_or, None}
-use Rattle.std.proofs.lemmas.List.{length-map, get_or-map, same_lists, get_or_default}
-use Rattle.replay_model.specs.Steps.{Event, Tag, Cell, Step, no_cell}
+use Rattle.std.proofs.lemmas.List.{length-map, get_or-map, same_lists}
+use Rattle.replay_model.specs.Steps.{Event, Tag, Cell}
 use Rattle.replay_model.specs.Threads.{Threads, StaysWithin, HasOnly, EndsWithin}
-use Rattle.replay_model.specs.Histories.{World, opening}
-use Rattle.replay_model.specs.Logs.{Limits, Log}
-use Rattle.replay_model.specs.RunLogs.{Instructions, last_tags, HasLog}
+use Rattle.replay_model.specs.Histories.{opening}
+use Rattle.replay_model.specs.Logs.{Limits}
+use Rattle.replay_model.specs.RunLogs.{Instructions, last_tags}
 use Rattle.replay_model.specs.Orders.{Respects}
-use Rattle.replay_model.specs.Fitting.{Fits, finals}
+use Rattle.replay_model.specs.Fitting.{Fits}
 use Rattle.replay_model.specs.SkipPlay.{skip_play, ShowsRuns}
 use Rattle.replay_model.specs.Events.{events_of}
 use Rattle.replay_model.specs.WholeHistories.{IsWholeHistory, played, history_log, history_order}
-use Rattle.replay_model.proofs.RunLogs.{logged_threads}
 use Rattle.replay_laws.proofs.Told.{grounded_finals}
 use Rattle.replay_laws.proofs.Shown.{fit_shown}
 use Rattle.replay_laws.proofs.Verdict.{sound_fits}

@@ -1,5 +1,5 @@
 -- Runs put into one order, in which each read sees the latest write before it. A history gives one.
-use Rattle.std.proofs.Common.{◌≡◌, ℕ, suc, ◌+◌, ◌-◌, ◌<◌, ◌≤◌, true, List, [], ◌∷◌, length, take, refl, sym, ◌∙◌, ap, subst, arith, inl, inr, ◌⊎◌}
+use Rattle.std.proofs.Common.{◌≡◌, ℕ, suc, ◌-◌, ◌<◌, ◌≤◌, true, List, [], ◌∷◌, length, take, refl, sym, ◌∙◌, ap, subst, arith, inl, inr, ◌⊎◌}
 use Rattle.std.specs.Prelude.{slice_index_or, Contains, Some, None}
 use Rattle.std.proofs.lemmas.List.{take_all, get_or-map}
 use Rattle.replay_model.specs.Steps.{Event, Tag, Cell, Step, word_of, no_cell, has_ended, initial_cells}
@@ -95,7 +95,7 @@ module _ (threads : Threads) (initial : List ℕ) (count : ℕ) (history : List 
 
   final_at : (word : ℕ) → word < length initial →
       IsSourceAt (played threads initial count history).threads (events_of threads history (opening initial count)) (length (events_of threads history (opening initial count))) word
-          (slice_index_or (last_tags (played threads initial count history).memory) word None)
+      (slice_index_or (last_tags (played threads initial count history).memory) word None)
   final_at word w =
       let n = events_of-length threads history (opening initial count) in
       let P : ℕ → Type 0 = λ i. IsSourceAt (played threads initial count history).threads (events_of threads history (opening initial count)) i word

@@ -1,11 +1,11 @@
 -- What the entries of a log say, where its runs are put into one order.
-use Rattle.std.proofs.Common.{◌≡◌, ℕ, ◌-◌, ◌<◌, ◌≤◌, List, length, refl, sym, ◌∙◌, ap, subst, arith, inl, inr, ◌⊎◌}
-use Rattle.std.specs.Prelude.{◌≢◌, Contains, Some, None}
+use Rattle.std.proofs.Common.{◌≡◌, ℕ, ◌<◌, ◌≤◌, List, length, refl, sym, ◌∙◌, ap, subst, arith, inl, inr}
+use Rattle.std.specs.Prelude.{◌≢◌, Some, None}
 use Rattle.replay_model.specs.Steps.{Event, Tag, Step}
 use Rattle.replay_model.specs.declared.Entry.{Entry}
 use Rattle.replay_model.specs.Threads.{Threads}
 use Rattle.replay_model.specs.Histories.{steps_of}
-use Rattle.replay_model.specs.Logs.{Log, HasEntry, last_tag, first_event, last_event}
+use Rattle.replay_model.specs.Logs.{Log, HasEntry, first_event, last_event}
 use Rattle.replay_model.specs.RunLogs.{Instructions}
 use Rattle.replay_model.specs.Events.{IsEvent}
 use Rattle.replay_model.specs.Orders.{place}

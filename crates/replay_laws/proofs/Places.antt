@@ -1,6 +1,6 @@
 -- Places of events in an order, and the tests on events of a log.
-use Rattle.std.proofs.Common.{◌≡◌, ℕ, zero, suc, ◌+◌, ◌<◌, ◌≤◌, Bool, true, false, cond, eqb, List, [], ◌∷◌, length, get_or, refl, sym, ◌∙◌, ap, subst, arith, inl, inr, ◌⊎◌}
-use Rattle.std.specs.Prelude.{◌≢◌, Contains, Some, None, ◌||◌, slice_index_or}
+use Rattle.std.proofs.Common.{◌≡◌, ℕ, zero, suc, ◌<◌, ◌≤◌, true, false, cond, eqb, List, [], ◌∷◌, length, get_or, refl, sym, ◌∙◌, ap, subst, arith, inl, inr, ◌⊎◌}
+use Rattle.std.specs.Prelude.{◌≢◌, Contains, Some, ◌||◌}
 use Rattle.std.specs.List.{list_any}
 use Rattle.std.proofs.lemmas.List.{get_or_past, get_or_default}
 use Rattle.std.proofs.lemmas.List.Elements.{Contains-get_or}
@@ -10,7 +10,7 @@ use Rattle.replay_model.specs.declared.Entry.{Entry}
 use Rattle.replay_model.specs.Logs.{ThreadLog, Log, no_thread, thread_of, HasEntry, first_event, last_event}
 use Rattle.replay_model.specs.Events.{IsKept, IsBound, IsEvent, names_source, keeps, is_bound, is_event}
 use Rattle.replay_model.specs.Orders.{place}
-use Rattle.replay_model.proofs.Tags.{same_event-true, same_event-same, same_event-false, same_tag-true, same_tag-same, any-element, element-any}
+use Rattle.replay_model.proofs.Tags.{same_event-true, same_event-same, same_event-false, same_tag-true, any-element, element-any}
 
 -- an event of the order stands at its place
 pub place-contains : (order : List Event) (e : Event) → Contains order e → place order e < length order

@@ -1,11 +1,11 @@
 -- Turns, with the threads that have ended passed over, are histories; rounds of turns are whole ones.
-use Rattle.std.proofs.Common.{◌≡◌, ℕ, zero, suc, ◌+◌, ◌<◌, ◌≤◌, true, false, cond, List, [], ◌∷◌, ◌++◌, length, refl, sym, ◌∙◌, ap, subst, arith, inl, inr, ◌⊎◌}
-use Rattle.std.specs.Prelude.{Contains, slice_index_or}
+use Rattle.std.proofs.Common.{◌≡◌, ℕ, zero, suc, ◌+◌, ◌<◌, ◌≤◌, true, false, List, [], ◌∷◌, ◌++◌, length, refl, sym, ◌∙◌, ap, subst, arith, inl, inr, ◌⊎◌}
+use Rattle.std.specs.Prelude.{Contains}
 use Rattle.std.specs.List.{range_with_len}
 use Rattle.std.proofs.lemmas.List.{length-replicate}
 use Rattle.std.proofs.lemmas.List.FromFn.{length-range_with_len, get_or-range_with_len}
 use Rattle.std.proofs.lemmas.Bool.{cases_Bool, cases_eq, cond-true, cond-false}
-use Rattle.replay_model.specs.Steps.{Step, has_ended}
+use Rattle.replay_model.specs.Steps.{has_ended}
 use Rattle.replay_model.specs.Threads.{Threads, EndsWithin}
 use Rattle.replay_model.specs.Histories.{World, steps_of, opening, wanted, move, keep_all, play, IsLegal, IsWhole, history_of, round_turns}
 use Rattle.replay_model.specs.WholeHistories.{IsWholeHistory}

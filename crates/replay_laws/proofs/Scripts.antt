@@ -1,14 +1,13 @@
 -- Threads that run scripts meet all premises of the laws.
-use Rattle.std.proofs.Common.{◌≡◌, ℕ, ◌+◌, ◌<◌, ◌≤◌, Bool, true, false, cond, List, length, take, refl, sym, ◌∙◌, ap, subst, arith, inl, inr, ◌⊎◌}
+use Rattle.std.proofs.Common.{◌≡◌, ℕ, ◌<◌, ◌≤◌, Bool, true, false, cond, List, length, take, refl, sym, ◌∙◌, ap, arith, inl, inr, ◌⊎◌}
 use Rattle.std.specs.Prelude.{◌&&◌, nat_le, slice_index_or}
 use Rattle.std.proofs.lemmas.List.{get_or_past, length-take-le}
-use Rattle.std.proofs.lemmas.Bool.{cases_Bool, leb-false, leb-true, le-leb, cond-true, cond-false}
+use Rattle.std.proofs.lemmas.Bool.{cases_Bool, leb-false, leb-true}
 use Rattle.replay_model.specs.Steps.{Step, word_of, has_ended, reads}
 use Rattle.replay_model.specs.declared.Want.{Want}
-use Rattle.replay_model.specs.declared.Want.TheVariants.{Load, Store, Swap, Cond, Ended}
+use Rattle.replay_model.specs.declared.Want.TheVariants.{Ended}
 use Rattle.replay_model.specs.declared.End.TheVariants.{Halted, BadAddress, StepsSpent, EntriesFull}
-use Rattle.replay_model.specs.Threads.{Threads, StaysWithin, HasOnly, EndsWithin, IsRun}
-use Rattle.replay_model.specs.Histories.{steps_of}
+use Rattle.replay_model.specs.Threads.{StaysWithin, HasOnly, EndsWithin, IsRun}
 use Rattle.replay_model.specs.ThreadLogs.{is_full}
 use Rattle.replay_model.specs.Logs.{Limits}
 use Rattle.replay_model.specs.KeptLimits.{KeepsLimits}

@@ -1,12 +1,11 @@
 -- The end of a skip play: it shows the runs that fit the log.
-use Rattle.std.proofs.Common.{◌≡◌, ℕ, zero, suc, ◌+◌, ◌-◌, ◌<◌, ◌≤◌, List, [], length, take, refl, sym, ◌∙◌, ap, subst, arith, inl, inr, ◌⊎◌, replicate}
-use Rattle.std.specs.Prelude.{◌≢◌, slice_index_or, Contains, Some, None}
+use Rattle.std.proofs.Common.{◌≡◌, ℕ, zero, suc, ◌<◌, ◌≤◌, List, [], length, take, refl, sym, ◌∙◌, ap, subst, arith, inl, inr, ◌⊎◌}
+use Rattle.std.specs.Prelude.{◌≢◌, Some, None}
 use Rattle.std.proofs.lemmas.List.{take_all, length-replicate, get_or-map, length-map, same_lists, get_or_default}
 use Rattle.std.proofs.lemmas.Bool.{cases_eq}
-use Rattle.replay_model.specs.Steps.{Event, Tag, Cell, Step, word_of, no_cell}
+use Rattle.replay_model.specs.Steps.{Event, Tag, Cell, Step, no_cell}
 use Rattle.replay_model.specs.Threads.{Threads, StaysWithin, EndsWithin, IsRun}
 use Rattle.replay_model.specs.Histories.{World, steps_of, opening}
-use Rattle.replay_model.specs.declared.Entry.{Entry}
 use Rattle.replay_model.specs.Logs.{Log, last_tag, last_event}
 use Rattle.replay_model.specs.RunLogs.{Instructions, last_tags}
 use Rattle.replay_model.specs.Events.{IsKept, keeps}

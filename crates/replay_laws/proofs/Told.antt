@@ -5,7 +5,7 @@ use Rattle.std.proofs.lemmas.List.{get_or_default, get_or_past, get_or-map, leng
 use Rattle.std.proofs.lemmas.Bool.{cases_lt}
 use Rattle.replay_model.specs.Steps.{Event, Tag, Cell, Step, word_of, wrote, no_cell, has_ended}
 use Rattle.replay_model.specs.declared.Entry.{Entry}
-use Rattle.replay_model.specs.Threads.{Threads, EndsWithin, IsRun, no_step}
+use Rattle.replay_model.specs.Threads.{Threads, EndsWithin, IsRun}
 use Rattle.replay_model.specs.Histories.{steps_of}
 use Rattle.replay_model.specs.Logs.{Log, HasEntry, last_tag}
 use Rattle.replay_model.specs.RunLogs.{Instructions, last_tags}

@@ -1,20 +1,20 @@
 -- A state that has the log shows runs that fit it, and the verdict of a skip play is exact.
-use Rattle.std.proofs.Common.{◌≡◌, ℕ, ◌+◌, ◌<◌, ◌≤◌, true, List, length, refl, sym, ◌∙◌, ap, subst, arith}
-use Rattle.std.specs.Prelude.{◌↔◌, Some, None, slice_index_or}
+use Rattle.std.proofs.Common.{◌≡◌, ℕ, ◌<◌, List, length, sym, ◌∙◌, ap, arith}
+use Rattle.std.specs.Prelude.{◌↔◌, None, slice_index_or}
 use Rattle.std.proofs.lemmas.List.{get_or-map, length-map, length-replicate}
-use Rattle.replay_model.specs.Steps.{Event, Tag, Cell, Step, no_cell, has_ended}
+use Rattle.replay_model.specs.Steps.{Event, Tag, Cell, Step, no_cell}
 use Rattle.replay_model.specs.Threads.{Threads, StaysWithin, HasOnly, EndsWithin}
-use Rattle.replay_model.specs.Histories.{World, steps_of, opening, wanted, IsWhole}
-use Rattle.replay_model.specs.Logs.{ThreadLog, Log, last_tag}
-use Rattle.replay_model.specs.RunLogs.{Instructions, run_logs, last_tags, HasLog}
+use Rattle.replay_model.specs.Histories.{World, opening, IsWhole}
+use Rattle.replay_model.specs.Logs.{Log, last_tag}
+use Rattle.replay_model.specs.RunLogs.{Instructions, run_logs, HasLog}
 use Rattle.replay_model.specs.Events.{keeps}
 use Rattle.replay_model.specs.Orders.{Respects}
-use Rattle.replay_model.specs.Fitting.{HasWritten, Fits}
-use Rattle.replay_model.specs.SkipPlay.{turns, finish, skip_play}
+use Rattle.replay_model.specs.Fitting.{Fits}
+use Rattle.replay_model.specs.SkipPlay.{turns, skip_play}
 use Rattle.replay_laws.proofs.Told.{grounded_writes}
 use Rattle.replay_laws.proofs.Shown.{fit_shown}
 use Rattle.replay_laws.proofs.Sound.{IsSound, IsGoing, going_turns, going_finish, going_opening}
-use Rattle.replay_laws.proofs.Endings.{finish_count, finish_ends}
+use Rattle.replay_laws.proofs.Endings.{finish_ends}
 
 -- the runs of a sound, whole state with this log fit it
 pub sound_fits : (threads : Threads) (instr : Instructions) (initial : List ℕ) (log : Log) (world : World) → IsSound threads initial world →

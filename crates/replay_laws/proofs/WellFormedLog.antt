@@ -1,13 +1,12 @@
 -- The log of a whole history is well formed.
-use Rattle.std.proofs.Common.{◌≡◌, ℕ, ◌+◌, ◌-◌, ◌<◌, ◌≤◌, List, length, refl, sym, ◌∙◌, ap, subst, arith, inl, inr, ◌⊎◌}
+use Rattle.std.proofs.Common.{◌≡◌, ℕ, ◌-◌, ◌<◌, List, length, refl, sym, ◌∙◌, ap, subst, arith, inl, inr, ◌⊎◌}
 use Rattle.std.specs.Prelude.{◌≢◌, Contains, Some, None, slice_index_or}
-use Rattle.std.proofs.lemmas.List.{get_or_default, length-map}
+use Rattle.std.proofs.lemmas.List.{get_or_default}
 use Rattle.std.proofs.lemmas.List.Elements.{Contains-get_or}
 use Rattle.std.proofs.lemmas.Bool.{cases_order}
 use Rattle.replay_model.specs.Steps.{Event, Tag, Cell, Step, word_of}
 use Rattle.replay_model.specs.declared.Want.{Want}
 use Rattle.replay_model.specs.declared.Want.TheVariants.{Load, Store, Swap, Cond, Ended}
-use Rattle.replay_model.specs.declared.End.{End}
 use Rattle.replay_model.specs.declared.End.TheVariants.{Halted, InstrSpent, BadAddress, StepsSpent, EntriesFull, OutputFull}
 use Rattle.replay_model.specs.declared.Entry.{Entry}
 use Rattle.replay_model.specs.Threads.{Threads, StaysWithin, HasOnly, EndsWithin}
@@ -15,7 +14,7 @@ use Rattle.replay_model.specs.Histories.{steps_of, opening}
 use Rattle.replay_model.specs.ThreadLogs.{thread_log}
 use Rattle.replay_model.specs.Logs.{Limits, ThreadLog, Log, thread_of, HasEntry, first_event, last_event}
 use Rattle.replay_model.specs.RunLogs.{Instructions, run_log, end_of}
-use Rattle.replay_model.specs.WellFormed.{IsInRange, IsPossibleEnd, IsTaken, IsTagOf, IsEntryOf, IsThreadOf, IsWellFormed}
+use Rattle.replay_model.specs.WellFormed.{IsInRange, IsPossibleEnd, IsTaken, IsTagOf, IsThreadOf, IsWellFormed}
 use Rattle.replay_model.specs.KeptLimits.{KeepsLimits}
 use Rattle.replay_model.specs.Events.{events_of}
 use Rattle.replay_model.specs.Fitting.{HasWritten, Fits}

@@ -1,24 +1,23 @@
 -- The worked examples.
-use Rattle.std.proofs.Common.{◌≡◌, ℕ, zero, suc, ◌+◌, ◌<◌, ◌≤◌, true, false, List, [], ◌∷◌, length, map, refl, sym, ◌∙◌, ap, subst, arith, inl, inr, ◌⊎◌}
-use Rattle.std.specs.Prelude.{◌≢◌, Some, None, Contains, slice_index_or}
+use Rattle.std.proofs.Common.{◌≡◌, ℕ, zero, suc, ◌<◌, ◌≤◌, true, false, List, [], ◌∷◌, length, map, refl, ◌∙◌, ap, subst, arith, inl, inr}
+use Rattle.std.specs.Prelude.{Some, None, Contains, slice_index_or}
 use Rattle.std.specs.List.{AllByRecursion}
 use Rattle.std.proofs.lemmas.List.Elements.{All-from_recursion}
 use Rattle.light_base.specs.declared.tag.Event.{Event}
 use Rattle.light_base.specs.declared.tag.Tag.{Tag}
 use Rattle.light_base.specs.declared.tag.Cell.{Cell}
 use Rattle.replay_model.specs.declared.Entry.{Entry}
-use Rattle.replay_model.specs.Steps.{has_ended}
-use Rattle.replay_model.specs.Threads.{Threads, IsRun}
-use Rattle.replay_model.specs.Histories.{World, steps_of, opening, wanted, move, take_step, play, IsLegal, IsWhole, history_of, round_turns}
+use Rattle.replay_model.specs.Threads.{IsRun}
+use Rattle.replay_model.specs.Histories.{World, move, take_step, play, IsLegal, IsWhole, history_of, round_turns}
 use Rattle.replay_model.specs.WordSteps.{WordStep, part}
 use Rattle.replay_model.specs.ThreadLogs.{thread_log}
-use Rattle.replay_model.specs.Logs.{ThreadLog, Log, no_thread}
+use Rattle.replay_model.specs.Logs.{ThreadLog, no_thread}
 use Rattle.replay_model.specs.Events.{events_of}
 use Rattle.replay_model.specs.Orders.{place, Respects}
 use Rattle.replay_model.specs.WellFormed.{IsInRange}
-use Rattle.replay_model.specs.SkipPlay.{skip_play, moves, turn, turns, finish}
-use Rattle.replay_model.specs.WholeHistories.{IsWholeHistory, played, history_order}
-use Rattle.replay_laws.specs.Scripts.{Script, script_threads, one_each}
+use Rattle.replay_model.specs.SkipPlay.{moves, turn, turns, finish}
+use Rattle.replay_model.specs.WholeHistories.{IsWholeHistory, history_order}
+use Rattle.replay_laws.specs.Scripts.{Script, one_each}
 use Rattle.replay_laws.specs.Examples
 use Rattle.replay_laws.proofs.Bridge.{word_steps_played}
 use Rattle.replay_laws.proofs.Scripts.{script_within, script_only, script_ends, script_keeps}

@@ -7,7 +7,6 @@ use Rattle.replay_model.specs.declared.Entry.{Entry}
 use Rattle.replay_model.specs.declared.Want.{Want}
 use Rattle.replay_model.specs.declared.Want.TheVariants.{Load, Store, Swap, Cond, Ended}
 use Rattle.replay_model.specs.declared.End.TheVariants.{Halted, EntriesFull}
-use Rattle.replay_model.specs.Steps.{Step}
 use Rattle.replay_model.specs.Threads.{Threads}
 use Rattle.replay_model.specs.Histories.{World, rounds, follow}
 use Rattle.replay_model.specs.WordSteps.{WordStep}
@@ -17,7 +16,7 @@ use Rattle.replay_model.specs.WellFormed.{IsWellFormed}
 use Rattle.replay_model.specs.Orders.{Respects}
 use Rattle.replay_model.specs.Fitting.{Fits}
 use Rattle.replay_model.specs.SkipPlay.{skip_play}
-use Rattle.replay_model.specs.WholeHistories.{IsWholeHistory, played, history_log, history_order}
+use Rattle.replay_model.specs.WholeHistories.{IsWholeHistory, played, history_log}
 use Rattle.replay_laws.specs.BridgeLaws.{IsPlayed}
 use Rattle.replay_laws.specs.Scripts.{Script, script_threads, one_each}
 

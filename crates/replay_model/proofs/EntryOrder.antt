@@ -1,17 +1,16 @@
 -- The entries of a thread's log stand by rising first, and it has no more than there is room for.
-use Rattle.std.proofs.Common.{◌≡◌, ℕ, zero, suc, ◌+◌, ◌<◌, ◌≤◌, Bool, true, false, cond, eqb, List, [], ◌∷◌, ◌++◌, length, map, take, refl, sym, ◌∙◌, ap, subst, arith, inl, inr, ◌⊎◌}
+use Rattle.std.proofs.Common.{◌≡◌, ℕ, zero, suc, ◌+◌, ◌<◌, ◌≤◌, Bool, true, false, cond, eqb, List, [], ◌∷◌, ◌++◌, length, map, take, refl, sym, ◌∙◌, ap, subst, arith}
 use Rattle.std.specs.Prelude.{◌≢◌, Contains, Option, Some, None, slice_index_or, is_some}
 use Rattle.std.specs.List.{list_any}
 use Rattle.std.proofs.lemmas.List.{length-append, length-map, take_more, take_all}
-use Rattle.std.proofs.lemmas.List.Elements.{Contains-get_or, Contains-append_cases}
-use Rattle.std.proofs.lemmas.Bool.{cases_Bool, leb-false}
+use Rattle.std.proofs.lemmas.List.Elements.{Contains-get_or}
+use Rattle.std.proofs.lemmas.Bool.{leb-false}
 use Rattle.replay_model.specs.Steps.{Tag, Cell, Step, word_of, reads}
-use Rattle.replay_model.specs.declared.Want.{Want}
 use Rattle.replay_model.specs.declared.Entry.{Entry}
 use Rattle.replay_model.specs.Threads.{Threads, IsRun, no_step}
 use Rattle.replay_model.specs.ThreadLogs.{numbers, least, entry_at, entries_from, thread_log, is_full}
 use Rattle.replay_model.specs.MoreReads.{is_entry_for, touched, with_read}
-use Rattle.replay_model.proofs.ThreadLogs.{entry_for, entry_at-comes, entries_from-comes}
+use Rattle.replay_model.proofs.ThreadLogs.{entry_for, entries_from-comes}
 use Rattle.replay_model.proofs.MoreReads.{thread_log-push, thread_log-quiet}
 
 -- each entry has a lesser first than those after it
