@@ -5,7 +5,7 @@ use Rattle.std.proofs.lemmas.List.{append_assoc, append-nil, take_at, get_or_at,
 use Rattle.std.proofs.lemmas.List.Elements.{All-head, All-tail}
 use Rattle.replay_model.specs.Steps.{Cell, Step, word_of, wrote, found_in, put, has_ended, initial_cells}
 use Rattle.replay_model.specs.Threads.{Threads, IsRun, no_step}
-use Rattle.replay_model.specs.Histories.{World, steps_of, opening, step_in, next_event, move, keep_all, play, IsLegal}
+use Rattle.replay_model.specs.Histories.{World, steps_of, opening, step_in, move, keep_all, play, IsLegal}
 use Rattle.replay_model.specs.WordSteps.{WordStep, event_of, part, Folds}
 use Rattle.replay_model.proofs.Moves.{each_thread, move_shape}
 use Rattle.replay_model.proofs.WordSteps.{step_of, part-append, part_own, part_other}

@@ -1,9 +1,9 @@
 -- What holds of histories and their logs.
-use Rattle.std.specs.Prelude.{◌≡◌, ℕ, ◌<◌, List, ◌++◌, length}
+use Rattle.std.specs.Prelude.{◌≡◌, ℕ, List, length}
 use Rattle.replay_model.specs.Steps.{Event}
 use Rattle.replay_model.specs.Threads.{Threads, StaysWithin, HasOnly, EndsWithin}
-use Rattle.replay_model.specs.Histories.{World, opening, play, IsLegal, history_of, rounds, follow}
-use Rattle.replay_model.specs.Logs.{Limits, Log}
+use Rattle.replay_model.specs.Histories.{World, play, IsLegal, history_of, rounds, follow}
+use Rattle.replay_model.specs.Logs.{Limits}
 use Rattle.replay_model.specs.RunLogs.{Instructions}
 use Rattle.replay_model.specs.WellFormed.{IsInRange, IsWellFormed}
 use Rattle.replay_model.specs.Orders.{Respects}

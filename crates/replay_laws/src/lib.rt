@@ -2,7 +2,11 @@
 //! contract is the law, which a caller has after the call.
 #![tactic(auto)]
 
+pub mod examples;
+
 ghost use Rattle.replay_laws.specs.BridgeLaws.{WordStepsAreAHistory};
+ghost use Rattle.replay_laws.specs.HistoryLaws.{RunsFitTheirLog, HistoryShowsItsRuns, HistoryRespectsItsLog, ReplayEndsAsTheHistory, HistoryLogIsWellFormed, TurnsAreAHistory, RoundsAreWhole, FollowIsWhole};
+ghost use Rattle.replay_laws.specs.SkipLaws.{SkipPlayShowsTheRuns, FittingRunsAreUnique, SkippedRunsFit, VerdictIsExact, VerdictIsTheSame};
 ghost use Rattle.replay_laws.specs.StepLaws.{OneMoreRead, OneMoreWrite, OneMoreStep, OneMoreOfItsThread};
 
 /// Steps at the words, whose parts are runs of the threads to their ends, are a whole history with these very steps.
@@ -20,4 +24,39 @@ pub fn read_law()
 pub fn word_step_law()
     ensures folds { OneMoreStep }
     ensures part { OneMoreOfItsThread }
+{}
+
+/// Where runs fit a log and an order respects it, the skip play gives these runs, each word's last tag, and the value
+/// that this tag names.
+pub fn skip_law()
+    ensures shows { SkipPlayShowsTheRuns }
+    ensures unique { FittingRunsAreUnique }
+{}
+
+/// Under an order that respects a log, the state after the skip play has the log exactly where some runs fit it.
+pub fn verdict_law()
+    ensures fits { SkippedRunsFit }
+    ensures exact { VerdictIsExact }
+    ensures same { VerdictIsTheSame }
+{}
+
+/// The runs of a whole history fit its log; each word ends with the value that its last tag names; the events of the log,
+/// in the history's order, respect it; and a replay of the log by any order that respects it ends as the history did.
+pub fn history_law()
+    ensures fits { RunsFitTheirLog }
+    ensures shows { HistoryShowsItsRuns }
+    ensures respects { HistoryRespectsItsLog }
+    ensures replayed { ReplayEndsAsTheHistory }
+{}
+
+/// The log of a whole history is well formed, where the threads keep to the limits.
+pub fn log_law()
+    ensures { HistoryLogIsWellFormed }
+{}
+
+/// Turns, with the threads that have ended passed over, are a legal history; with rounds of turns after them, a whole one.
+pub fn turns_law()
+    ensures turns { TurnsAreAHistory }
+    ensures rounds { RoundsAreWhole }
+    ensures follow { FollowIsWhole }
 {}

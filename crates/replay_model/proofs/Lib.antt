@@ -3,3 +3,5 @@ pub mod Moves
 pub mod ThreadLogs
 pub mod MoreReads
 pub mod WordSteps
+pub mod RunLogs
+pub mod EntryOrder

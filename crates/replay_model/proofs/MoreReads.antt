@@ -1,6 +1,6 @@
 -- The log of a thread after one more step.
 use Rattle.std.proofs.Common.{◌≡◌, ℕ, suc, ◌+◌, ◌-◌, ◌<◌, ◌≤◌, Bool, true, false, cond, eqb, List, [], ◌∷◌, ◌++◌, length, refl, sym, ◌∙◌, ap, subst, arith, inl, inr, ◌⊎◌, map}
-use Rattle.std.specs.Prelude.{Option, Some, None, ◌&&◌, max, Contains}
+use Rattle.std.specs.Prelude.{Option, Some, None, ◌&&◌, max}
 use Rattle.std.specs.List.{list_any}
 use Rattle.std.proofs.lemmas.List.{append_assoc, append-nil, map-append}
 use Rattle.std.proofs.lemmas.Bool.{cases_Bool, eq-eqb, eqb-true, ne_eqb, and_from, and_parts, cond-true, cond-false}

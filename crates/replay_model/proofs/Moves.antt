@@ -1,11 +1,11 @@
 -- What a step of one thread does to the state.
 use Rattle.std.proofs.Common.{◌≡◌, ℕ, ◌+◌, ◌<◌, ◌≤◌, Bool, true, false, cond, List, [], ◌∷◌, ◌++◌, length, refl, sym, ◌∙◌, ap, subst, arith, inl, inr, ◌⊎◌}
-use Rattle.std.specs.Prelude.{Option, Some, None, slice_set, slice_index_or, is_some, replicate}
+use Rattle.std.specs.Prelude.{Some, None, slice_set, slice_index_or, is_some, replicate}
 use Rattle.std.proofs.lemmas.List.{length-set, get_or-set_same, get_or-set_other, get_or_past, length_push, get_or-replicate, length-replicate}
 use Rattle.std.proofs.lemmas.Bool.{cases_eq, cases_lt, cases_Bool, cond-true, cond-false}
 use Rattle.replay_model.specs.Steps.{Event, Cell, Want, Step, word_of, reads, wrote, no_cell, has_ended, found_in, put}
 use Rattle.replay_model.specs.Threads.{Threads}
-use Rattle.replay_model.specs.Histories.{World, steps_of, opening, step_in, next_event, take_step, wanted, move}
+use Rattle.replay_model.specs.Histories.{World, steps_of, step_in, next_event, take_step, wanted, move}
 
 -- a thread that has a step is one of the threads
 pub in_range : (runs : List (List Step)) (t k : ℕ) → k < length (steps_of runs t) → t < length runs

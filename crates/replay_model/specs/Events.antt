@@ -1,5 +1,5 @@
 -- The events of a log: the steps that an order of it places.
-use Rattle.std.specs.Prelude.{◌≡◌, ℕ, Bool, ◌&&◌, ◌||◌, eqb, Some, List, [], ◌∷◌, Contains, ◌⊎◌}
+use Rattle.std.specs.Prelude.{◌≡◌, ℕ, Bool, ◌||◌, eqb, Some, List, [], ◌∷◌, Contains, ◌⊎◌}
 use Rattle.std.specs.List.{list_any}
 use Rattle.replay_model.specs.Steps.{Event, Tag, same_tag}
 use Rattle.replay_model.specs.Threads.{Threads}

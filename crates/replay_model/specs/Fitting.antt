@@ -1,5 +1,5 @@
 -- Runs that fit a log. No order is spoken of.
-use Rattle.std.specs.Prelude.{◌≡◌, ℕ, ◌+◌, ◌-◌, ◌<◌, ◌≤◌, Option, Some, None, List, [], ◌∷◌, length, slice_index_or, unwrap_or, ◌⊎◌}
+use Rattle.std.specs.Prelude.{◌≡◌, ℕ, ◌+◌, ◌-◌, ◌<◌, ◌≤◌, Some, None, List, [], ◌∷◌, length, slice_index_or, unwrap_or, ◌⊎◌}
 use Rattle.replay_model.specs.Steps.{Event, Tag, Cell, Step, word_of, wrote}
 use Rattle.replay_model.specs.Threads.{Threads, IsRun, no_step}
 use Rattle.replay_model.specs.Histories.{steps_of}

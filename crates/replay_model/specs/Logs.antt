@@ -1,5 +1,5 @@
 -- Logs: which write each read of each thread saw, how each thread ended, and who wrote each word last.
-use Rattle.std.specs.Prelude.{ℕ, None, List, [], length, slice_index_or, Contains}
+use Rattle.std.specs.Prelude.{ℕ, None, List, [], slice_index_or, Contains}
 use Rattle.replay_model.specs.Steps.{Event, Tag, End}
 use Rattle.replay_model.specs.declared.End.TheVariants.{Halted}
 use Rattle.replay_model.specs.ThreadLogs.{Entry}

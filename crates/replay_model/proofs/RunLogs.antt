@@ -1,0 +1,51 @@
+-- The logs of runs, thread by thread.
+use Rattle.std.proofs.Common.{◌≡◌, ℕ, zero, suc, ◌+◌, ◌<◌, ◌≤◌, List, [], ◌∷◌, length, refl, sym, ◌∙◌, ap, subst, arith, inl, inr, ◌⊎◌}
+use Rattle.std.specs.Prelude.{Contains, slice_index_or}
+use Rattle.std.proofs.lemmas.List.{get_or_past}
+use Rattle.std.proofs.lemmas.Bool.{cases_lt}
+use Rattle.replay_model.specs.Steps.{Step}
+use Rattle.replay_model.specs.declared.Entry.{Entry}
+use Rattle.replay_model.specs.Threads.{Threads}
+use Rattle.replay_model.specs.Histories.{steps_of}
+use Rattle.replay_model.specs.ThreadLogs.{thread_log}
+use Rattle.replay_model.specs.Logs.{ThreadLog, Log, no_thread, thread_of, HasEntry}
+use Rattle.replay_model.specs.RunLogs.{Instructions, run_log, run_logs_from, run_logs}
+
+pub run_logs_from-length : (threads : Threads) (instr : Instructions) (m : ℕ) (runs : List (List Step)) → length (run_logs_from threads instr m runs) ≡ length runs
+run_logs_from-length threads instr m [] = refl
+run_logs_from-length threads instr m (run ∷ runs) = ap suc (run_logs_from-length threads instr (m + 1) runs)
+
+pub run_logs_from-at : (threads : Threads) (instr : Instructions) (m : ℕ) (runs : List (List Step)) (t : ℕ) (d : ThreadLog) → t < length runs →
+    slice_index_or (run_logs_from threads instr m runs) t d ≡ run_log threads instr (m + t) (steps_of runs t)
+run_logs_from-at threads instr m [] t d l = absurd (omega (arith, l))
+run_logs_from-at threads instr m (run ∷ runs) zero d l = let z : m ≡ m + 0 = omega arith in ap (λ n. run_log threads instr n run) z
+run_logs_from-at threads instr m (run ∷ runs) (suc t) d l =
+    let z : (m + 1) + t ≡ m + suc t = omega arith in
+    run_logs_from-at threads instr (m + 1) runs t d (omega arith) ∙ ap (λ n. run_log threads instr n (steps_of runs t)) z
+
+-- the log of thread t among those of all threads
+pub run_logs-at : (threads : Threads) (instr : Instructions) (runs : List (List Step)) (t : ℕ) (d : ThreadLog) → t < length runs →
+    slice_index_or (run_logs threads instr runs) t d ≡ run_log threads instr t (steps_of runs t)
+run_logs-at threads instr runs t d l =
+    let z : 0 + t ≡ t = omega arith in
+    run_logs_from-at threads instr 0 runs t d l ∙ ap (λ n. run_log threads instr n (steps_of runs t)) z
+
+module _ (threads : Threads) (instr : Instructions) (log : Log) (runs : List (List Step)) (logs : log.threads ≡ run_logs threads instr runs) where
+  pub logged_threads : length log.threads ≡ length runs
+  logged_threads = ap length logs ∙ run_logs_from-length threads instr 0 runs
+
+  pub logged_thread : (t : ℕ) → t < length runs → thread_of log t ≡ run_log threads instr t (steps_of runs t)
+  logged_thread t l = ap (λ (x : List ThreadLog). slice_index_or x t no_thread) logs ∙ run_logs-at threads instr runs t no_thread l
+
+  -- the entries of a thread are those of its run
+  pub entry-logged : (t : ℕ) (entry : Entry) → HasEntry log t entry → (t < length runs) × Contains (thread_log (steps_of runs t)) entry
+  entry-logged t entry (k, kl, h) = go (cases_lt t (length runs))
+    where
+      go : (t < length runs) ⊎ (length runs ≤ t) → (t < length runs) × Contains (thread_log (steps_of runs t)) entry
+      go (inl l) = (l, subst (λ (x : ThreadLog). Contains x.entries entry) (logged_thread t l) (k, kl, h))
+      go (inr p) =
+          let n = logged_threads in
+          let e = ap (λ (x : ThreadLog). length x.entries) (get_or_past log.threads t no_thread (omega arith)) in absurd (omega (arith, kl, e))
+
+  pub logged-entry : (t : ℕ) (entry : Entry) → t < length runs → Contains (thread_log (steps_of runs t)) entry → HasEntry log t entry
+  logged-entry t entry l c = subst (λ (x : ThreadLog). Contains x.entries entry) (sym (logged_thread t l)) c
