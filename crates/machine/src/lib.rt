@@ -2,8 +2,10 @@
 #![tactic(auto)]
 
 mod cores;
+mod laws;
 mod program;
 
 pub use crate::cores::{Core, RunReport};
+pub use crate::laws::machine_law;
 pub use crate::program::{Instr, Limits, Op, Program};
 pub use replay_model::{Access, End, Want};
