@@ -1,3 +1,5 @@
 pub mod Local
 pub mod Rests
 pub mod Runs
+pub mod Turning
+pub mod Keeps

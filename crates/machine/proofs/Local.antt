@@ -119,3 +119,18 @@ run_local-follows (suc n) code words limits full s =
 pub run_on-follows : (code : List Instr) (words : ℕ) (limits : LimitsValue) (full : Bool) (s : State) → Follows s (run_on code words limits full s)
 unfolding run_on
 run_on-follows code words limits full s = run_local-follows _ code words limits full s
+
+-- how many entries a log may have does not matter to local instructions
+pub run_local-entries : (n : ℕ) (code : List Instr) (words : ℕ) (limits : LimitsValue) (entries : ℕ) (full : Bool) (s : State) →
+    run_local n code words (record limits { entries = entries }) full s ≡ run_local n code words limits full s
+unfolding run_local
+run_local-entries zero code words limits entries full s = refl
+run_local-entries (suc n) code words limits entries full s =
+    let o = slice_get code s.place in
+    let i = instr_or_halt o in
+    ap (λ (next : State). waiting_or s o (comes_to words limits full s o) next) (run_local-entries n code words limits entries full (ran i.op s i))
+
+pub run_on-entries : (code : List Instr) (words : ℕ) (limits : LimitsValue) (entries : ℕ) (full : Bool) (s : State) →
+    run_on code words (record limits { entries = entries }) full s ≡ run_on code words limits full s
+unfolding run_on
+run_on-entries code words limits entries full s = run_local-entries _ code words limits entries full s

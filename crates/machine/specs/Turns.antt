@@ -2,11 +2,16 @@
 use Rattle.std.specs.Prelude.{◌≡◌, ℕ, ◌+◌, Bool, Option, Some, None, List}
 use Rattle.replay_model.specs.declared.Want.{Want}
 use Rattle.machine.specs.declared.program.Instr.{Instr}
+use Rattle.machine.specs.declared.cores.Course.{Course}
 use Rattle.machine.specs.declared.cores.Rest.{Rest}
 use Rattle.machine.specs.declared.cores.Turn.{Turn}
 use Rattle.machine.specs.declared.cores.Turn.TheVariants as turn
 use Rattle.machine.specs.Programs.{LimitsValue}
 use Rattle.machine.specs.Cores.{State, comes_to, ran}
+
+-- the limits that bound a course; how many entries a log may have is settled before it
+abbrev pub bounds_of : Course → LimitsValue
+bounds_of c = record { steps = c.most_steps; instr = c.most_instr; entries = 0 }
 
 -- a state with these parts, and all else as in s
 abbrev pub moved : State → List ℕ → ℕ → List ℕ → ℕ → ℕ → State

@@ -3,7 +3,7 @@ ghost use Rattle.std.specs.Prelude.{◌≡◌, ℕ, ◌+◌, ◌<◌, ◌≤◌,
 ghost use Rattle.replay_model.specs.Steps.{reads};
 ghost use Rattle.machine.specs.Programs.{IsCode, IsInstr, has_registers};
 ghost use Rattle.machine.specs.Cores.{State, first_state, is_memory, comes_to, run_on, settled, took, end_of, report_of, is_store};
-ghost use Rattle.machine.specs.Turns.{moved, rested, Turns};
+ghost use Rattle.machine.specs.Turns.{bounds_of, moved, rested, Turns};
 
 use crate::program::{Instr, Limits, Op, Program};
 use light_base::{Cell, Memory};
@@ -86,7 +86,8 @@ struct Rest {
 struct Course<'a> {
     code: &'a [Instr],
     words: usize,
-    limits: &'a Limits,
+    most_steps: u32,
+    most_instr: u32,
     full: bool,
     steps: u32,
 }
@@ -97,13 +98,13 @@ impl Course<'_> {
         requires words { self.now.words ≤ 4096 }
         requires registers { has_registers i ≡ true }
         requires memory { is_memory i.op ≡ true }
-        ensures { (s : State) (place instr : ℕ) (output : List ℕ) → instr < self.now.limits.now.instr → comes_to self.now.words self.now.limits.now self.now.full (moved s registers.now place output self.now.steps instr) (Some i) ≡ Some result }
+        ensures { (s : State) (place instr : ℕ) (output : List ℕ) → instr < self.now.most_instr → comes_to self.now.words (bounds_of self.now) self.now.full (moved s registers.now place output self.now.steps instr) (Some i) ≡ Some result }
     {
         let address = registers[usize::from(i.b)].wrapping_add(i.imm);
         if address as usize >= self.words {
             return Want::Ended(End::BadAddress(address));
         }
-        if self.steps >= self.limits.steps() {
+        if self.steps >= self.most_steps {
             return Want::Ended(End::StepsSpent);
         }
         let word = address as u16;
@@ -126,8 +127,8 @@ impl Course<'_> {
         requires words { self.now.words ≤ 4096 }
         requires place { place < 4096 }
         requires rules { IsInstr (length self.now.code.now) i }
-        ensures ok { IfOk result (λ turn. (s : State) → Turns self.now.words self.now.limits.now self.now.full i (moved s registers.old place output.old.items self.now.steps instr) turn registers.new output.new.items) }
-        ensures err { OnErr result ((s : State) → comes_to self.now.words self.now.limits.now self.now.full (moved s registers.old place output.old.items self.now.steps instr) (Some i) ≡ None) }
+        ensures ok { IfOk result (λ turn. (s : State) → Turns self.now.words (bounds_of self.now) self.now.full i (moved s registers.old place output.old.items self.now.steps instr) turn registers.new output.new.items) }
+        ensures err { OnErr result ((s : State) → comes_to self.now.words (bounds_of self.now) self.now.full (moved s registers.old place output.old.items self.now.steps instr) (Some i) ≡ None) }
         ensures puts { OnErr result (i.op ≡ Op.Out) }
         ensures kept { take (length output.old.items) output.new.items ≡ output.old.items }
     {
@@ -135,7 +136,7 @@ impl Course<'_> {
         let b = usize::from(i.b);
         match i.op {
             Op::Halt => return Ok(Turn::Stop(Want::Ended(End::Halted))),
-            _ if instr >= self.limits.instr() => {
+            _ if instr >= self.most_instr => {
                 return Ok(Turn::Stop(Want::Ended(End::InstrSpent)));
             }
             Op::Const => registers[a] = i.imm,
@@ -168,8 +169,8 @@ impl Course<'_> {
     ) -> Result<Rest, Memory>
         requires words { self.now.words ≤ 4096 }
         requires code { IsCode self.now.code.now }
-        ensures ok { IfOk result (λ rest. (s : State) → run_on self.now.code.now self.now.words self.now.limits.now self.now.full (moved s registers.old place output.old.items self.now.steps instr) ≡ rested s registers.new output.new.items self.now.steps rest) }
-        ensures err { OnErr result ((s : State) → length output.old.items < length (run_on self.now.code.now self.now.words self.now.limits.now self.now.full (moved s registers.old place output.old.items self.now.steps instr)).output) }
+        ensures ok { IfOk result (λ rest. (s : State) → run_on self.now.code.now self.now.words (bounds_of self.now) self.now.full (moved s registers.old place output.old.items self.now.steps instr) ≡ rested s registers.new output.new.items self.now.steps rest) }
+        ensures err { OnErr result ((s : State) → length output.old.items < length (run_on self.now.code.now self.now.words (bounds_of self.now) self.now.full (moved s registers.old place output.old.items self.now.steps instr)).output) }
         ensures kept { take (length output.old.items) output.new.items ≡ output.old.items }
     {
         while place < self.code.len() {
@@ -231,7 +232,8 @@ impl Core {
         let course = Course {
             code: program.threads(usize::from(self.thread)),
             words: program.words().len(),
-            limits,
+            most_steps: limits.steps(),
+            most_instr: limits.instr(),
             full,
             steps: self.steps,
         };

@@ -1,13 +1,16 @@
-use Rattle.std.proofs.Common.{length, ◌-◌, ◌≡◌, ℕ, ◌+◌, ◌<◌, ◌≤◌, true, false, Some, None, List, take, IfOk, OnErr, IsSome, IsSomeAnd, option_and_then, ◌*◌}
-use Rattle.replay_model.specs.Steps.{reads}
-use Rattle.machine.specs.Programs.{IsCode, IsInstr, has_registers}
-use Rattle.machine.specs.Cores.{State, first_state, is_memory, comes_to, run_on, settled, took, end_of, report_of, is_store}
-use Rattle.machine.specs.Turns.{moved, rested, Turns}
+use Rattle.std.proofs.Common.{◌≡◌, ◌-◌, length, take}
+use Rattle.machine.specs.Cores.{State, run_on}
+use Rattle.machine.specs.Turns.{bounds_of, moved}
 use Rattle.machine.proofs.cores.Course.run.Given as goal
 
+-- from here the run goes where it goes from its start, and the output begins as it was
 abbrev pub invariant-loop-place : goal.invariant-loop-place
-invariant-loop-place l = ?
+invariant-loop-place l = record {
+  same : (s : State) → run_on l.self.code.now l.self.words (bounds_of l.self) l.self.full (moved s l.initial.registers l.initial.place l.initial.output.items l.self.steps l.initial.instr) ≡
+      run_on l.self.code.now l.self.words (bounds_of l.self) l.self.full (moved s l.registers l.place l.output.items l.self.steps l.instr);
+  kept : take (length l.initial.output.items) l.output.items ≡ l.initial.output.items;
+}
 
--- proposed from the loop's first test
+-- the instructions that the limit leaves
 abbrev pub decreases-loop-place : goal.decreases-loop-place
-decreases-loop-place l = length l.self.code.now - l.place
+decreases-loop-place l = l.self.most_instr - l.instr
