@@ -3,3 +3,4 @@ pub mod Rests
 pub mod Runs
 pub mod Turning
 pub mod Keeps
+pub mod Going

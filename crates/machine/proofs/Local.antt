@@ -12,7 +12,7 @@ use Rattle.machine.specs.Programs.{ProgramValue, LimitsValue}
 use Rattle.machine.specs.Cores.{State, is_halt, is_memory, is_out, end_before, step_wanted, ended_or, comes_to, ran, instr_or_halt, waiting, waiting_or, run_local, run_on}
 
 -- where neither an end nor a memory step comes, no end comes
-no_end : (e : Option End) (w : Option Want) → ended_or e w ≡ None → (e ≡ None) × (w ≡ None)
+pub no_end : (e : Option End) (w : Option Want) → ended_or e w ≡ None → (e ≡ None) × (w ≡ None)
 no_end None w h = (refl, h)
 no_end (Some e) w h = cc
 
