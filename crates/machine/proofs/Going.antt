@@ -1,6 +1,6 @@
 -- How a run of local instructions settles a state, from what is known where it is called.
 use Rattle.std.proofs.Common.{◌≡◌, ℕ, ◌<◌, ◌≤◌, Bool, List, [], length, refl, sym, ◌∙◌, ap, subst, arith}
-use Rattle.std.specs.Prelude.{Option, Some, None, All}
+use Rattle.std.specs.Prelude.{Option, Some, None}
 use Rattle.std.proofs.lemmas.List.Elements.{All-get_or}
 use Rattle.replay_model.specs.declared.Want.{Want}
 use Rattle.machine.specs.declared.program.Instr.{Instr}

@@ -1,19 +1,18 @@
 -- What holds of every state that a thread comes to.
-use Rattle.std.proofs.Common.{◌≡◌, ℕ, zero, suc, ◌+◌, ◌-◌, ◌<◌, ◌≤◌, Bool, true, false, cond, ◌&&◌, ◌||◌, not, leb, ltb, List, [], ◌∷◌, length, refl, sym, ◌∙◌, ap, subst, arith}
-use Rattle.std.specs.Prelude.{slice_get, slice_index, slice_set, Option, Some, None, All}
+use Rattle.std.proofs.Common.{◌≡◌, ℕ, zero, suc, ◌+◌, ◌<◌, ◌≤◌, Bool, true, false, cond, ◌&&◌, ◌||◌, not, leb, ltb, List, length, refl, ◌∙◌, subst, arith}
+use Rattle.std.specs.Prelude.{slice_get, slice_index, Option, Some, None}
 use Rattle.std.proofs.lemmas.Bool.{leb-false, ltb-true, ltb-false}
 use Rattle.std.proofs.lemmas.List.{length_push, length-set}
 use Rattle.std.proofs.lemmas.List.Elements.{All-get_or}
 use Rattle.std.proofs.lemmas.Option.{slice_get_within, get_or_from_slice_get}
-use Rattle.replay_model.specs.Steps.{has_ended}
 use Rattle.replay_model.specs.declared.Want.{Want}
 use Rattle.replay_model.specs.declared.End.TheVariants as end
 use Rattle.machine.specs.declared.program.Instr.{Instr}
 use Rattle.machine.specs.declared.program.Op.{Op}
 use Rattle.machine.specs.declared.program.Op.TheVariants as op
-use Rattle.machine.specs.Programs.{ProgramValue, LimitsValue, AreLimits, IsInstr, IsCode, is_register, has_registers, uses_a, jumps}
-use Rattle.machine.specs.Cores.{State, IsState, HasRoom, most_outputs, halt, address_of, is_halt, is_memory, is_reading, is_out, end_before, step_wanted, comes_to, ran, instr_or_halt, waiting, waiting_or, run_local, run_on}
-use Rattle.machine.proofs.Local.{no_end, passed, goes_on, going_instr, GoesOn}
+use Rattle.machine.specs.Programs.{LimitsValue, AreLimits, IsInstr, IsCode, is_register, has_registers, uses_a, jumps}
+use Rattle.machine.specs.Cores.{State, IsState, HasRoom, most_outputs, address_of, is_halt, is_memory, is_reading, is_out, end_before, step_wanted, comes_to, ran, instr_or_halt, waiting, waiting_or, run_local, run_on}
+use Rattle.machine.proofs.Local.{no_end, passed, goes_on}
 use Rattle.machine.proofs.Rests.{comes-taken, comes-past}
 
 pub instr_at : (code : List Instr) (place : ℕ) (i : Instr) → IsCode code → slice_get code place ≡ Some i → IsInstr (length code) i
@@ -50,24 +49,44 @@ ran_state : (o : Op) (s : State) (i : Instr) (len : ℕ) → s.place < len → l
     (not (jumps o) || not (ltb len i.imm)) ≡ true → (is_out o && leb most_outputs (length s.output)) ≡ false → IsState s → IsState (ran o s i)
 ran_state op.Halt s i len place short instr none target room state = state
 ran_state op.Const s i len place short instr none target room state = record {
-  thread = state.thread; registers = length-set s.registers i.a _ ∙ state.registers; place = omega arith; output = state.output; steps = state.steps; instr = omega arith;
+  thread = state.thread;
+  registers = length-set s.registers i.a _ ∙ state.registers;
+  place = omega arith;
+  output = state.output;
+  steps = state.steps;
+  instr = omega arith;
   room = no_room s.pending _ none;
 }
 ran_state op.Addi s i len place short instr none target room state = record {
-  thread = state.thread; registers = length-set s.registers i.a _ ∙ state.registers; place = omega arith; output = state.output; steps = state.steps; instr = omega arith;
+  thread = state.thread;
+  registers = length-set s.registers i.a _ ∙ state.registers;
+  place = omega arith;
+  output = state.output;
+  steps = state.steps;
+  instr = omega arith;
   room = no_room s.pending _ none;
 }
 ran_state op.Jeq s i len place short instr none target room state =
     let there = target_within len i.imm (ltb len i.imm) refl target in
     record {
-      thread = state.thread; registers = state.registers; place = chosen_within _ i.imm (s.place + 1) 4096 (omega arith) (omega arith); output = state.output; steps = state.steps; instr = omega arith;
+      thread = state.thread;
+      registers = state.registers;
+      place = chosen_within _ i.imm (s.place + 1) 4096 (omega arith) (omega arith);
+      output = state.output;
+      steps = state.steps;
+      instr = omega arith;
       room = no_room s.pending _ none;
     }
 ran_state op.Out s i len place short instr none target room state =
     let more = length_push s.output (slice_index s.registers i.a) in
     let left = leb-false most_outputs (length s.output) room in
     record {
-      thread = state.thread; registers = state.registers; place = omega arith; output = omega arith; steps = state.steps; instr = omega arith;
+      thread = state.thread;
+      registers = state.registers;
+      place = omega arith;
+      output = omega arith;
+      steps = state.steps;
+      instr = omega arith;
       room = no_room s.pending _ none;
     }
 ran_state op.Load s i len place short instr none target room state = state
@@ -104,11 +123,21 @@ ran-pending op.Store s i = refl
 pub waiting-is_state : (code : List Instr) (words : ℕ) (limits : LimitsValue) (full : Bool) (s : State) (o : Option Instr) (wanted : Want) → IsCode code → AreLimits limits → slice_get code s.place ≡ o →
     comes_to words limits full s o ≡ Some wanted → IsState s → IsState (waiting s o wanted)
 waiting-is_state code words limits full s None wanted rules bounds at h state = record {
-  thread = state.thread; registers = state.registers; place = state.place; output = state.output; steps = state.steps; instr = state.instr;
+  thread = state.thread;
+  registers = state.registers;
+  place = state.place;
+  output = state.output;
+  steps = state.steps;
+  instr = state.instr;
   room = λ lives. let e = comes-past words limits full s wanted h in cc;
 }
 waiting-is_state code words limits full s (Some i) wanted rules bounds at h state = record {
-  thread = state.thread; registers = state.registers; place = state.place; output = state.output; steps = state.steps; instr = state.instr;
+  thread = state.thread;
+  registers = state.registers;
+  place = state.place;
+  output = state.output;
+  steps = state.steps;
+  instr = state.instr;
   room = λ lives.
       let t = comes-taken words limits full s i wanted h lives in
       let r = t.steps in let n = t.instr in let b = bounds.steps in let m = bounds.instr in
@@ -129,7 +158,7 @@ run_local-is_state (suc n) code words limits full s rules bounds none state =
     let o = slice_get code s.place in
     let i = instr_or_halt o in
     waiting_or-is_state code words limits full s o (comes_to words limits full s o) rules bounds refl refl state _
-        (λ h. run_local-is_state n code words limits full (ran i.op s i) rules bounds (ran-pending i.op s i ∙ none) (ran-is_state code words limits full s o rules bounds refl h none state))
+    (λ h. run_local-is_state n code words limits full (ran i.op s i) rules bounds (ran-pending i.op s i ∙ none) (ran-is_state code words limits full s o rules bounds refl h none state))
 
 -- a run from a state with nothing pending keeps what holds of a state
 pub run_on-is_state : (code : List Instr) (words : ℕ) (limits : LimitsValue) (full : Bool) (s : State) → IsCode code → AreLimits limits → s.pending ≡ None → IsState s →

@@ -11,10 +11,10 @@ use Rattle.replay_model.specs.declared.Want.TheVariants as want
 use Rattle.replay_model.specs.declared.End.TheVariants as end
 use Rattle.machine.specs.Programs.{ProgramValue, LimitsValue, code_of}
 use Rattle.machine.specs.declared.program.Instr.{Instr}
-use Rattle.machine.specs.Cores.{State, first_state, settled, took, want_or, pending_want, waiting, run_on}
+use Rattle.machine.specs.Cores.{State, first_state, settled, took, want_or, run_on}
 use Rattle.machine.specs.Runs.{state_from, state_after, threads_of}
 use Rattle.machine.proofs.Local.{run_on-stop}
-use Rattle.machine.proofs.Rests.{Settles, settled-settles, settled-some, settled-none}
+use Rattle.machine.proofs.Rests.{settled-settles, settled-some, settled-none}
 
 took-pending : (s : State) (found : Option Cell) → (took s found).pending ≡ None
 took-pending s None = refl
@@ -33,8 +33,8 @@ settled-past : (p : ProgramValue) (limits : LimitsValue) (full : Bool) (s : Stat
 settled-past p limits full s h past =
     let none : code_of p s.thread ≡ [] = get_or_past p.threads s.thread [] past in
     ap (λ (n : State). n.pending) (
-      settled-none p limits full s h ∙ ap (λ (code : List Instr). run_on code (length p.words) limits full s) none ∙
-          run_on-stop [] (length p.words) limits full s None (want.Ended end.Halted) refl refl
+    settled-none p limits full s h ∙ ap (λ (code : List Instr). run_on code (length p.words) limits full s) none ∙
+    run_on-stop [] (length p.words) limits full s None (want.Ended end.Halted) refl refl
     )
 
 -- the state after these steps: its thread, its count of steps, and what is pending
@@ -51,7 +51,12 @@ settled-stands : (p : ProgramValue) (limits : LimitsValue) (full : Bool) (s : St
 settled-stands p limits full s h =
     let t = settled-settles p limits full s h in
     record {
-      thread = t.thread; steps = t.steps; wanted = t.wanted; pending = t.pending; word = t.word; room = t.room;
+      thread = t.thread;
+      steps = t.steps;
+      wanted = t.wanted;
+      pending = t.pending;
+      word = t.word;
+      room = t.room;
       past = λ over.
           let e : Some t.wanted ≡ Some (want.Ended end.Halted) = sym t.pending ∙ settled-past p limits full s h over in
           let w : t.wanted ≡ want.Ended end.Halted = cc in

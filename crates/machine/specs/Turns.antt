@@ -1,6 +1,5 @@
 -- What one instruction does, apart from what it leaves alone.
-use Rattle.std.specs.Prelude.{◌≡◌, ℕ, ◌+◌, Bool, Option, Some, None, List}
-use Rattle.replay_model.specs.declared.Want.{Want}
+use Rattle.std.specs.Prelude.{◌≡◌, ℕ, ◌+◌, Bool, Some, None, List}
 use Rattle.machine.specs.declared.program.Instr.{Instr}
 use Rattle.machine.specs.declared.cores.Course.{Course}
 use Rattle.machine.specs.declared.cores.Rest.{Rest}

@@ -12,5 +12,4 @@ pub fn machine_law()
     ensures step { GoStepByStep }
     ensures pending { SettleWithPending }
     ensures stays { StaySettled }
-{
-}
+{}

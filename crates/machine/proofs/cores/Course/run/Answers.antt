@@ -1,11 +1,10 @@
-use Rattle.std.proofs.Common.{◌≡◌, ◌<◌, ◌+◌, length, take, refl, sym, ◌∙◌, ap, arith, Fits, w32}
-use Rattle.std.specs.Prelude.{Some, None, slice_get, slice_index_or}
+use Rattle.std.proofs.Common.{length, refl, ◌∙◌, ap, arith}
+use Rattle.std.specs.Prelude.{None, slice_index_or}
 use Rattle.std.proofs.lemmas.Option.{slice_get-get_or, slice_get_past}
 use Rattle.std.proofs.Math.Seq.{take-length}
 use Rattle.replay_model.specs.declared.Want.TheVariants as want
 use Rattle.replay_model.specs.declared.End.TheVariants as end
-use Rattle.machine.specs.Programs.{LimitsValue}
-use Rattle.machine.specs.Cores.{State, first_state, halt, run_on}
+use Rattle.machine.specs.Cores.{State, first_state, halt}
 use Rattle.machine.specs.Turns.{bounds_of, moved}
 use Rattle.machine.proofs.Local.{run_on-stop}
 use Rattle.machine.proofs.Turning.{next-room, next-goes, stop-rests, out-grows, begins-long, begins-on, on_err}
@@ -20,9 +19,9 @@ returns-in_err-next-clause-err c =
     let at = slice_get-get_or self.code.now c.loop-place.place halt c.loop-place-test.true in
     let long = begins-long c.args.output.now.items c.loop-place.output.items c.loop-place.invariant.kept in
     on_err c.from_residual.result (λ s.
-        let grows = out-grows self.code.now self.words (bounds_of self) self.full _ (moved s c.loop-place.registers c.loop-place.place c.loop-place.output.items self.steps c.loop-place.instr) at (c.in_err-next.ensures.err s) c.in_err-next.ensures.puts in
-        let same = ap (λ (n : State). length n.output) (c.loop-place.invariant.same s) in
-        omega arith)
+    let grows = out-grows self.code.now self.words (bounds_of self) self.full _ (moved s c.loop-place.registers c.loop-place.place c.loop-place.output.items self.steps c.loop-place.instr) at (c.in_err-next.ensures.err s) c.in_err-next.ensures.puts in
+    let same = ap (λ (n : State). length n.output) (c.loop-place.invariant.same s) in
+    omega arith)
 
 pub returns-in_err-next-clause-kept : goal.returns-in_err-next-clause-kept
 returns-in_err-next-clause-kept c = begins-on _ _ _ c.loop-place.invariant.kept c.turn.ensures.kept
@@ -72,7 +71,7 @@ returns-clause-ok c = λ s.
     let self = c.args.self.now in
     c.loop-place.invariant.same s ∙
     run_on-stop self.code.now self.words (bounds_of self) self.full _ None (want.Ended end.Halted)
-        (slice_get_past self.code.now c.loop-place.place c.loop-place-test.false) refl
+    (slice_get_past self.code.now c.loop-place.place c.loop-place-test.false) refl
 
 pub returns-clause-kept : goal.returns-clause-kept
 returns-clause-kept c = c.loop-place.invariant.kept
