@@ -1,8 +1,8 @@
 // One thread of a program: its registers and its place, and what it wants of the memory next.
 ghost use Rattle.std.specs.Prelude.{◌≡◌, ℕ, ◌+◌, ◌<◌, ◌≤◌, true, false, Some, None, List, length, take, IfOk, OnErr, IsSome, IsSomeAnd, option_and_then};
-ghost use Rattle.replay_model.specs.Steps.{reads};
+ghost use Rattle.replay_model.specs.Steps.{reads, has_ended};
 ghost use Rattle.machine.specs.Programs.{IsCode, IsInstr, has_registers};
-ghost use Rattle.machine.specs.Cores.{State, first_state, is_memory, comes_to, run_on, settled, took, end_of, report_of, is_store};
+ghost use Rattle.machine.specs.Cores.{State, first_state, is_memory, comes_to, run_on, settled, step_done, took, end_of, report_of, is_store};
 ghost use Rattle.machine.specs.Turns.{bounds_of, moved, rested, Turns};
 
 use crate::program::{Instr, Limits, Op, Program};
@@ -261,16 +261,21 @@ impl Core {
         ensures { self.new ≡ took self.old (Some cell) }
     {
         self.registers[usize::from(self.doing.a)] = cell.value;
-        self.place += 1;
-        self.steps += 1;
-        self.instr += 1;
-        self.pending = None;
+        self.step_done();
     }
 
     /// The pending store was made; nothing is pending afterwards.
     pub fn stored(&mut self)
         requires { IsSomeAnd self.old.pending (λ wanted. is_store wanted ≡ true) }
         ensures { self.new ≡ took self.old None }
+    {
+        self.step_done();
+    }
+
+    // The pending memory step was taken, and with it its instruction.
+    fn step_done(&mut self)
+        requires { IsSomeAnd self.old.pending (λ wanted. has_ended wanted ≡ false) }
+        ensures { self.new ≡ step_done self.old }
     {
         self.place += 1;
         self.steps += 1;
