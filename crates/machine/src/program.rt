@@ -1,5 +1,6 @@
 // Programs: what a thread can be told to do, and the rules that a program keeps.
 ghost use Rattle.std.specs.Prelude.{◌≡◌, ◌<◌, ◌≤◌, length, map, slice_index_or, []};
+ghost use Rattle.machine.specs.Programs.{AreLimits, IsProgram, code_of};
 
 use std::marker::Model;
 
@@ -50,6 +51,25 @@ impl Model for Program {
     ghost invariant = { λ p. IsProgram (record { words = p.words.items; threads = map (λ code. code.items) p.threads.items }) };
 }
 
+impl Program {
+    /// The initial values of the words.
+    pub fn words(&self) -> &[u32]
+        ensures value { result.now ≡ self.now.words }
+        ensures rules { IsProgram self.now }
+    {
+        &self.words
+    }
+
+    /// The code of a thread.
+    pub fn threads(&self, thread: usize) -> &[Instr]
+        requires { thread < length self.now.threads }
+        ensures value { result.now ≡ code_of self.now thread }
+        ensures rules { IsProgram self.now }
+    {
+        &self.threads[thread]
+    }
+}
+
 /// How much a thread may do at most.
 #[derive(Clone, Copy, Debug, PartialEq, Eq)]
 pub struct Limits {
@@ -68,4 +88,22 @@ impl Model for Limits {
     ghost invariant = { λ l. AreLimits (record { steps = l.steps; instr = l.instr; entries = l.entries }) };
 
     ghost inverse = { λ l. record { steps = l.steps; instr = l.instr; entries = l.entries } };
+}
+
+impl Limits {
+    /// The most memory steps.
+    pub fn steps(&self) -> u32
+        ensures value { result ≡ self.now.steps }
+        ensures rules { AreLimits self.now }
+    {
+        self.steps
+    }
+
+    /// The most instructions.
+    pub fn instr(&self) -> u32
+        ensures value { result ≡ self.now.instr }
+        ensures rules { AreLimits self.now }
+    {
+        self.instr
+    }
 }
