@@ -2,6 +2,7 @@
 #![tactic(auto)]
 
 mod core;
+mod image;
 mod image_fault;
 mod program;
 
