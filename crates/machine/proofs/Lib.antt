@@ -4,3 +4,9 @@ pub mod Runs
 pub mod Turning
 pub mod Keeps
 pub mod Going
+pub mod Faults
+pub mod Rules
+pub mod ImageHead
+pub mod ImageSteps
+pub mod ImageNumbers
+pub mod ImageInstrs
