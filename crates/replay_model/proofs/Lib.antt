@@ -6,3 +6,4 @@ pub mod WordSteps
 pub mod RunLogs
 pub mod EntryOrder
 pub mod Plays
+pub mod WordCells
