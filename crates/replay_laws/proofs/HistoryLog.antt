@@ -1,11 +1,11 @@
 -- The log of a whole history: its runs fit it, and its events respect it; a replay of it ends as the history did.
-use Rattle.std.proofs.Common.{◌≡◌, ℕ, ◌<◌, List, length, map, refl, sym, ◌∙◌, ap, arith}
+use Rattle.std.proofs.Common.{◌≡◌, ℕ, ◌<◌, List, length, map, refl, sym, ◌∙◌, ap, arith, subst}
 use Rattle.std.specs.Prelude.{slice_index_or, None}
 use Rattle.std.proofs.lemmas.List.{length-map, get_or-map, same_lists}
 use Rattle.replay_model.specs.Steps.{Event, Tag, Cell}
 use Rattle.replay_model.specs.Threads.{Threads, StaysWithin, HasOnly, EndsWithin}
 use Rattle.replay_model.specs.Histories.{opening}
-use Rattle.replay_model.specs.Logs.{Limits}
+use Rattle.replay_model.specs.Logs.{Limits, Log}
 use Rattle.replay_model.specs.RunLogs.{Instructions, last_tags}
 use Rattle.replay_model.specs.Orders.{Respects}
 use Rattle.replay_model.specs.Fitting.{Fits}
@@ -60,3 +60,16 @@ module _ (threads : Threads) (instr : Instructions) (digest : List ℕ) (limits 
       same_cells _ (played threads initial count history).memory s.tags (s.values ∙ sym history_shows.values) in
       let r = s.threads in
       λ j. record { memory = m j; threads = r j }
+
+-- two histories with one log end in one state
+pub histories_alike : (threads : Threads) (instr : Instructions) (digest : List ℕ) (limits : Limits) (initial : List ℕ) (count : ℕ) (one two : List ℕ) →
+    StaysWithin threads (length initial) → HasOnly threads count → EndsWithin threads limits.steps →
+    IsWholeHistory threads initial count one → IsWholeHistory threads initial count two →
+    history_log threads instr digest limits initial count one ≡ history_log threads instr digest limits initial count two →
+    played threads initial count one ≡ played threads initial count two
+histories_alike threads instr digest limits initial count one two within only stops w x same =
+    let order : List Event = history_order threads initial count one (history_log threads instr digest limits initial count one) in
+    let r = history_respects threads instr digest limits initial count one within only w in
+    let a = history_replayed threads instr digest limits initial count one within only w order stops r in
+    let b = history_replayed threads instr digest limits initial count two within only x order stops (subst (λ (l : Log). Respects l order) same r) in
+    sym a ∙ ap (λ (l : Log). skip_play threads initial l order) same ∙ b

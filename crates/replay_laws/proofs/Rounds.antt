@@ -10,17 +10,8 @@ use Rattle.replay_model.specs.Threads.{Threads, EndsWithin}
 use Rattle.replay_model.specs.Histories.{World, steps_of, opening, wanted, move, keep_all, play, IsLegal, IsWhole, history_of, round_turns}
 use Rattle.replay_model.specs.WholeHistories.{IsWholeHistory}
 use Rattle.replay_model.proofs.Moves.{move_ended, move_here, move_there, move_count}
+use Rattle.replay_model.proofs.Plays.{play-append, play_count}
 use Rattle.replay_laws.proofs.Endings.{move_stays}
-
-pub play-append : (threads : Threads) (xs ys : List ℕ) (world : World) → play threads (xs ++ ys) world ≡ play threads ys (play threads xs world)
-unfolding play
-play-append threads [] ys world = refl
-play-append threads (t ∷ xs) ys world = play-append threads xs ys (move threads keep_all t world)
-
-pub play_count : (threads : Threads) (turns : List ℕ) (world : World) → length (play threads turns world).threads ≡ length world.threads
-unfolding play
-play_count threads [] world = refl
-play_count threads (t ∷ turns) world = play_count threads turns (move threads keep_all t world) ∙ move_count threads keep_all t world
 
 -- what the turns would be, with a turn of t first
 pub history_of-ended : (threads : Threads) (t : ℕ) (turns : List ℕ) (world : World) → has_ended (wanted threads t world) ≡ true → history_of threads (t ∷ turns) world ≡ history_of threads turns world

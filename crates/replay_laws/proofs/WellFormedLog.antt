@@ -12,7 +12,7 @@ use Rattle.replay_model.specs.declared.Entry.{Entry}
 use Rattle.replay_model.specs.Threads.{Threads, StaysWithin, HasOnly, EndsWithin}
 use Rattle.replay_model.specs.Histories.{steps_of, opening}
 use Rattle.replay_model.specs.ThreadLogs.{thread_log}
-use Rattle.replay_model.specs.Logs.{Limits, ThreadLog, Log, thread_of, HasEntry, first_event, last_event}
+use Rattle.replay_model.specs.Logs.{Limits, ThreadLog, Log, thread_of, last_tag, HasEntry, first_event, last_event}
 use Rattle.replay_model.specs.RunLogs.{Instructions, run_log, end_of}
 use Rattle.replay_model.specs.WellFormed.{IsInRange, IsPossibleEnd, IsTaken, IsTagOf, IsThreadOf, IsWellFormed}
 use Rattle.replay_model.specs.KeptLimits.{KeepsLimits}
@@ -46,9 +46,14 @@ module _ (threads : Threads) (instr : Instructions) (initial : List ℕ) (log : 
       go None q = tt
       go (Some e) q = let (v, hw) = (told threads instr initial log runs all fits linear).sources t a e c q in written_taken e a.word v hw
 
-  last_taken : (tag : Tag) → Contains log.lasts tag → IsTagOf log tag
-  last_taken None c = tt
-  last_taken (Some e) c = let (word, v, w, q, hw) = (told threads instr initial log runs all fits linear).lasts e c in written_taken e word v hw
+  last_taken : (word : ℕ) → word < length log.lasts → IsTagOf log (last_tag log word)
+  last_taken word l = go (last_tag log word) refl
+    where
+      go : (tag : Tag) → last_tag log word ≡ tag → IsTagOf log tag
+      go None q = tt
+      go (Some e) q =
+          let (x, v, w, is, hw) = (told threads instr initial log runs all fits linear).lasts e (word, l, get_or_default log.lasts word (Some e) None l ∙ q) in
+          written_taken e x v hw
 
   -- the entries of one word in one thread do not overlap
   no_overlap : (t : ℕ) → t < length runs → (i j : ℕ) (d : Entry) → i < j → j < length (thread_log (steps_of runs t)) →
@@ -126,12 +131,11 @@ module _ (threads : Threads) (instr : Instructions) (initial : List ℕ) (log : 
       apart = no_overlap t l;
     }
 
-    thread_formed : (thread : ThreadLog) → Contains log.threads thread → IsThreadOf log thread
-    thread_formed thread (t, l, h) =
+    thread_formed : (t : ℕ) → t < length log.threads → IsThreadOf log (thread_of log t)
+    thread_formed t l =
         let n = logged_threads threads instr log runs fits.logs in
         let tl : t < length runs = omega arith in
-        let same : thread_of log t ≡ thread = get_or_default log.threads t _ thread l ∙ h in
-        subst (IsThreadOf log) (sym (logged_thread threads instr log runs fits.logs t tl) ∙ same) (run_formed t tl)
+        subst (IsThreadOf log) (sym (logged_thread threads instr log runs fits.logs t tl)) (run_formed t tl)
 
     pub linear_formed : (count : ℕ) → length log.threads ≡ count → IsInRange count (length initial) log.limits → IsWellFormed log
     linear_formed count cq range = record {

@@ -44,6 +44,14 @@ ReplayEndsAsTheHistory = (threads : Threads) (instr : Instructions) (digest : Li
     Respects (history_log threads instr digest limits initial count history) order →
     skip_play threads initial (history_log threads instr digest limits initial count history) order ≡ played threads initial count history
 
+-- so two histories with one log end in one state
+abbrev pub HistoriesWithOneLogEndAlike : Type 0
+HistoriesWithOneLogEndAlike = (threads : Threads) (instr : Instructions) (digest : List ℕ) (limits : Limits) (initial : List ℕ) (count : ℕ) (one two : List ℕ) →
+    StaysWithin threads (length initial) → HasOnly threads count → EndsWithin threads limits.steps →
+    IsWholeHistory threads initial count one → IsWholeHistory threads initial count two →
+    history_log threads instr digest limits initial count one ≡ history_log threads instr digest limits initial count two →
+    played threads initial count one ≡ played threads initial count two
+
 -- turns with the ended threads passed over are a legal history, and play alike
 abbrev pub TurnsAreAHistory : Type 0
 TurnsAreAHistory = (threads : Threads) (turns : List ℕ) (world : World) →

@@ -5,9 +5,10 @@
 pub mod examples;
 
 ghost use Rattle.replay_laws.specs.BridgeLaws.{WordStepsAreAHistory};
-ghost use Rattle.replay_laws.specs.HistoryLaws.{RunsFitTheirLog, HistoryShowsItsRuns, HistoryRespectsItsLog, ReplayEndsAsTheHistory, HistoryLogIsWellFormed, TurnsAreAHistory, RoundsAreWhole, FollowIsWhole};
+ghost use Rattle.replay_laws.specs.HistoryLaws.{RunsFitTheirLog, HistoryShowsItsRuns, HistoryRespectsItsLog, ReplayEndsAsTheHistory, HistoryLogIsWellFormed, TurnsAreAHistory, RoundsAreWhole, FollowIsWhole, HistoriesWithOneLogEndAlike};
+ghost use Rattle.replay_laws.specs.EventLaws.{KeptIsDecided, EventsAreDecided};
 ghost use Rattle.replay_laws.specs.SkipLaws.{SkipPlayShowsTheRuns, FittingRunsAreUnique, SkippedRunsFit, VerdictIsExact, VerdictIsTheSame};
-ghost use Rattle.replay_laws.specs.StepLaws.{OneMoreRead, OneMoreWrite, OneMoreStep, OneMoreOfItsThread};
+ghost use Rattle.replay_laws.specs.StepLaws.{OneMoreRead, OneMoreWrite, OneMoreStep, OneMoreOfItsThread, TagNamesOneCell, TagsAreOfSteps};
 
 /// Steps at the words, whose parts are runs of the threads to their ends, are a whole history with these very steps.
 pub fn bridge_law()
@@ -47,6 +48,7 @@ pub fn history_law()
     ensures shows { HistoryShowsItsRuns }
     ensures respects { HistoryRespectsItsLog }
     ensures replayed { ReplayEndsAsTheHistory }
+    ensures alike { HistoriesWithOneLogEndAlike }
 {}
 
 /// The log of a whole history is well formed, where the threads keep to the limits.
@@ -59,4 +61,16 @@ pub fn turns_law()
     ensures turns { TurnsAreAHistory }
     ensures rounds { RoundsAreWhole }
     ensures follow { FollowIsWhole }
+{}
+
+/// In a list of steps at the words a tag names one cell, and one step that its thread took.
+pub fn tag_law()
+    ensures cell { TagNamesOneCell }
+    ensures step { TagsAreOfSteps }
+{}
+
+/// The tests on events of a log decide.
+pub fn event_law()
+    ensures kept { KeptIsDecided }
+    ensures event { EventsAreDecided }
 {}

@@ -5,3 +5,5 @@ pub mod MoreReads
 pub mod WordSteps
 pub mod RunLogs
 pub mod EntryOrder
+pub mod Plays
+pub mod WordCells

@@ -3,7 +3,7 @@ use Rattle.std.specs.Prelude.{◌≡◌, ◌≢◌, ℕ, ◌<◌, ◌≤◌, ◌
 use Rattle.replay_model.specs.Steps.{Event, Tag, End}
 use Rattle.replay_model.specs.declared.End.TheVariants.{Halted, InstrSpent, BadAddress, StepsSpent, EntriesFull, OutputFull}
 use Rattle.replay_model.specs.ThreadLogs.{Entry}
-use Rattle.replay_model.specs.Logs.{Limits, ThreadLog, Log, thread_of}
+use Rattle.replay_model.specs.Logs.{Limits, ThreadLog, Log, thread_of, last_tag}
 
 -- numbers of threads and of words, and limits, that a machine may have
 pub record IsInRange (count size : ℕ) (limits : Limits) : Type 0 where
@@ -62,5 +62,5 @@ pub record IsThreadOf (log : Log) (thread : ThreadLog) : Type 0 where
 -- a well-formed log
 pub record IsWellFormed (log : Log) : Type 0 where
   pub range : IsInRange (length log.threads) (length log.lasts) log.limits
-  pub threads : (thread : ThreadLog) → Contains log.threads thread → IsThreadOf log thread
-  pub lasts : (tag : Tag) → Contains log.lasts tag → IsTagOf log tag
+  pub threads : (t : ℕ) → t < length log.threads → IsThreadOf log (thread_of log t)
+  pub lasts : (word : ℕ) → word < length log.lasts → IsTagOf log (last_tag log word)

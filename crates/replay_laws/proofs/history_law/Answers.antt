@@ -1,5 +1,5 @@
 use Rattle.replay_laws.proofs.history_law.Goals as goal
-use Rattle.replay_laws.proofs.HistoryLog.{history_fits, history_shows, history_respects, history_replayed}
+use Rattle.replay_laws.proofs.HistoryLog.{history_fits, history_shows, history_respects, history_replayed, histories_alike}
 
 pub returns-clause-fits : goal.returns-clause-fits
 returns-clause-fits c = history_fits
@@ -13,3 +13,6 @@ returns-clause-respects c = history_respects
 pub returns-clause-replayed : goal.returns-clause-replayed
 returns-clause-replayed c threads instr digest limits initial count history order within only stops whole respects =
     history_replayed threads instr digest limits initial count history within only whole order stops respects
+
+pub returns-clause-alike : goal.returns-clause-alike
+returns-clause-alike c = histories_alike
