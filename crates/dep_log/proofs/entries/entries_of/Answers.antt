@@ -2,11 +2,12 @@ use Rattle.std.proofs.Common.{◌≡◌, ◌∙◌, sym, ap, refl, Vec, Global}
 use Rattle.std.specs.Prelude.{Option, Some, None, List}
 use Rattle.std.specs.HashMap.{get}
 use Rattle.std.specs.Map.{lookup}
+use Rattle.std.proofs.lemmas.List.{take_all}
 use Rattle.replay_model.specs.Steps.{Cell}
 use Rattle.dep_log.specs.declared.entries.Sighting.{Sighting}
 use Rattle.dep_log.specs.AccessLogs.{Access, Entry, access_log, with_found, noted}
 use Rattle.dep_log.specs.Places.{FindsEntries, same_sighting}
-use Rattle.dep_log.proofs.AccessLogs.{access_log-take}
+use Rattle.dep_log.proofs.AccessLogs.{access_log-take, access_log-accesses_from}
 use Rattle.dep_log.proofs.Places.{FindsEntries-none}
 use Rattle.dep_log.proofs.entries.entries_of.Goals as goal
 use Rattle.dep_log.proofs.entries.entries_of.Goals.{in-Some+in_ok-add_read, in_default}
@@ -41,3 +42,7 @@ loop-access-preserved c =
           places = rw (w.places-is, w.entries-is) c.loop-access.invariant.places;
         }
     ]
+
+pub returns-clause-thread : goal.returns-clause-thread
+returns-clause-thread c = λ steps is.
+    c.loop-access.invariant.entries ∙ ap access_log (take_all c.loop-access.access-index c.args.accesses.now c.loop-access-test.false ∙ is) ∙ access_log-accesses_from steps
