@@ -59,9 +59,7 @@ impl RunLog {
 
     /// The limits under which the threads ran.
     pub fn limits(&self) -> &Limits
-        ensures steps { result.now.steps ≡ self.now.limits.steps }
-        ensures instr { result.now.instr ≡ self.now.limits.instr }
-        ensures entries { result.now.entries ≡ self.now.limits.entries }
+        ensures { record { steps = result.now.steps; instr = result.now.instr; entries = result.now.entries } ≡ self.now.limits }
     {
         &self.limits
     }
