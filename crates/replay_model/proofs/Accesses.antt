@@ -1,5 +1,5 @@
 -- The steps as they are told, after one more.
-use Rattle.std.proofs.Common.{◌≡◌, ℕ, suc, ◌+◌, List, [], ◌∷◌, ◌++◌, length, refl, sym, ◌∙◌, ap, arith}
+use Rattle.std.proofs.Common.{◌≡◌, ℕ, suc, ◌+◌, List, [], ◌∷◌, ◌++◌, length, refl, ◌∙◌, ap, arith}
 use Rattle.replay_model.specs.Steps.{Access, Step, access_of, accesses_from}
 
 pub accesses_from-push : (n : ℕ) (steps : List Step) (step : Step) → accesses_from n (steps ++ step ∷ []) ≡ accesses_from n steps ++ access_of (n + length steps) step ∷ []

@@ -1,8 +1,7 @@
 -- Plays of histories one after another, and the histories that turns make.
 use Rattle.std.proofs.Common.{◌≡◌, ℕ, ◌<◌, ◌≤◌, Bool, true, false, cond, List, [], ◌∷◌, ◌++◌, length, refl, sym, ◌∙◌, ap, subst, arith, inl, inr, ◌⊎◌, append_assoc}
 use Rattle.std.proofs.lemmas.Bool.{cases_Bool, cases_lt}
-use Rattle.std.proofs.lemmas.List.{get_or_past}
-use Rattle.replay_model.specs.Steps.{Step, has_ended}
+use Rattle.replay_model.specs.Steps.{has_ended}
 use Rattle.replay_model.specs.Threads.{Threads, HasOnly}
 use Rattle.replay_model.specs.Histories.{World, steps_of, wanted, move, keep_all, play, IsLegal, IsWhole, history_of}
 use Rattle.replay_model.proofs.Moves.{move_ended, move_count}

@@ -1,13 +1,13 @@
 -- How many entries the log of a thread has, told by what its steps saw.
-use Rattle.std.proofs.Common.{◌≡◌, ℕ, ◌+◌, ◌-◌, ◌<◌, ◌≤◌, Bool, true, false, cond, eqb, List, [], ◌∷◌, ◌++◌, length, refl, sym, ◌∙◌, ap, subst, arith, inl, inr, ◌⊎◌, map, length-append}
-use Rattle.std.specs.Prelude.{Option, Some, None, ◌||◌, ◌&&◌, Contains, slice_index_or}
+use Rattle.std.proofs.Common.{◌≡◌, ℕ, ◌+◌, ◌-◌, Bool, true, false, cond, eqb, List, [], ◌∷◌, ◌++◌, length, refl, sym, ◌∙◌, ap, subst, arith, inl, inr, ◌⊎◌, map, length-append}
+use Rattle.std.specs.Prelude.{Some, None, ◌||◌}
 use Rattle.std.specs.List.{list_any}
 use Rattle.std.proofs.lemmas.List.{get_or_default, length-map}
 use Rattle.std.proofs.lemmas.List.Folds.{list_any-append, list_any_at}
 use Rattle.std.proofs.lemmas.Bool.{cases_Bool, eq-eqb, and_from, and_parts, eqb-true}
 use Rattle.replay_model.specs.Steps.{Tag, Cell, Step, same_tag, word_of}
 use Rattle.replay_model.specs.Threads.{no_step}
-use Rattle.replay_model.specs.ThreadLogs.{Entry, saw, is_sight, thread_log}
+use Rattle.replay_model.specs.ThreadLogs.{Entry, saw, thread_log}
 use Rattle.replay_model.specs.MoreReads.{is_entry_for, touched}
 use Rattle.replay_model.proofs.Tags.{same_tag-true, same_tag-same, any-element, element-any}
 use Rattle.replay_model.proofs.ThreadLogs.{nth, saw-found, thread_log-covers, thread_log-stands}
