@@ -1,9 +1,9 @@
 //! The word machine: instructions, programs, their images, and a thread's core.
 #![tactic(auto)]
 
-mod core;
+mod cores;
 mod program;
 
-pub use crate::core::{Core, RunReport};
+pub use crate::cores::{Core, RunReport};
 pub use crate::program::{Instr, Limits, Op, Program};
 pub use replay_model::{Access, End, Want};

@@ -1,0 +1,1 @@
+-- Threads as functions of their memory steps.
