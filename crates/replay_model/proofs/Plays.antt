@@ -1,10 +1,11 @@
 -- Plays of histories one after another, and the histories that turns make.
-use Rattle.std.proofs.Common.{◌≡◌, ℕ, ◌<◌, ◌≤◌, Bool, true, false, cond, List, [], ◌∷◌, ◌++◌, length, refl, sym, ◌∙◌, ap, subst, arith, inl, inr, ◌⊎◌, append_assoc}
+use Rattle.std.proofs.Common.{◌≡◌, ℕ, ◌<◌, ◌≤◌, Bool, true, false, cond, List, [], ◌∷◌, ◌++◌, length, refl, sym, ◌∙◌, ap, subst, arith, inl, inr, ◌⊎◌, append_assoc, length-set}
+use Rattle.std.specs.Prelude.{Option, Some, None}
 use Rattle.std.proofs.lemmas.Bool.{cases_Bool, cases_lt}
-use Rattle.replay_model.specs.Steps.{has_ended}
+use Rattle.replay_model.specs.Steps.{Event, Cell, word_of, wrote, found_in, put, has_ended}
 use Rattle.replay_model.specs.Threads.{Threads, HasOnly}
-use Rattle.replay_model.specs.Histories.{World, steps_of, wanted, move, keep_all, play, IsLegal, IsWhole, history_of}
-use Rattle.replay_model.proofs.Moves.{move_ended, move_count}
+use Rattle.replay_model.specs.Histories.{World, steps_of, next_event, wanted, move, keep_all, play, IsLegal, IsWhole, history_of}
+use Rattle.replay_model.proofs.Moves.{move_shape, move_ended, move_count}
 
 -- no thread wants a step any more
 abbrev pub HaveEnded : Threads → World → Type 0
@@ -100,3 +101,22 @@ ended-whole threads count world only c whole t = go (cases_lt t (length world.th
     go : (t < length world.threads) ⊎ (length world.threads ≤ t) → has_ended (wanted threads t world) ≡ true
     go (inl l) = whole t l
     go (inr l) = only t (steps_of world.threads t) (omega arith)
+
+-- a write changes no word's place
+pub length-put : (memory : List Cell) (word : ℕ) (event : Event) (value : Option ℕ) → length (put memory word event value) ≡ length memory
+length-put memory word event None = refl
+length-put memory word event (Some value) = length-set memory word _
+
+pub move_memory : (threads : Threads) (t : ℕ) (world : World) → length (move threads keep_all t world).memory ≡ length world.memory
+move_memory threads t world = go (cases_Bool (has_ended (wanted threads t world)))
+  where
+    go : (has_ended (wanted threads t world) ≡ true) ⊎ (has_ended (wanted threads t world) ≡ false) → length (move threads keep_all t world).memory ≡ length world.memory
+    go (inl e) = ap (λ (w : World). length w.memory) (move_ended threads keep_all t world e)
+    go (inr e) =
+        ap (λ (w : World). length w.memory) (move_shape threads keep_all t world (wanted threads t world) refl e) ∙
+        length-put world.memory (word_of (wanted threads t world)) (next_event t world) (wrote (wanted threads t world) (found_in world.memory (wanted threads t world)))
+
+pub play_memory : (threads : Threads) (xs : List ℕ) (world : World) → length (play threads xs world).memory ≡ length world.memory
+unfolding play
+play_memory threads [] world = refl
+play_memory threads (t ∷ xs) world = play_memory threads xs (move threads keep_all t world) ∙ move_memory threads t world
