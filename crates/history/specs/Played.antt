@@ -1,5 +1,5 @@
 -- What a plain machine has played: a program under limits, and whose steps were taken.
-use Rattle.std.specs.Prelude.{◌≡◌, ℕ, ◌+◌, List, [], ◌∷◌, ◌++◌, length, take}
+use Rattle.std.specs.Prelude.{◌≡◌, ℕ, ◌+◌, List, [], ◌∷◌, ◌++◌, length}
 use Rattle.replay_model.specs.Histories.{World, steps_of, step_in, IsWhole, history_of}
 use Rattle.replay_model.specs.declared.Access.{Access}
 use Rattle.replay_model.specs.declared.Want.{Want}
@@ -53,8 +53,11 @@ abbrev pub after_turns : Played → List ℕ → Played
 after_turns played turns = record played { taken = played.taken ++ steps_in played turns }
 
 -- only some first ones of the steps of these turns were taken
-abbrev pub HasBegun : Played → List ℕ → Played → Type 0
-HasBegun old turns new = (n : ℕ) × (new ≡ record old { taken = old.taken ++ take n (steps_in old turns) })
+pub record HasBegun (old : Played) (turns : List ℕ) (new : Played) : Type 0 where
+  pub first : List ℕ
+  pub rest : List ℕ
+  pub split : steps_in old turns ≡ first ++ rest
+  pub left : new ≡ record old { taken = old.taken ++ first }
 
 -- every thread has ended
 abbrev pub IsOver : Played → Type 0

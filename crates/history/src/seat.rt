@@ -1,9 +1,11 @@
 // What a plain machine keeps of one thread.
-ghost use Rattle.std.specs.Prelude.{◌≡◌, ℕ, ◌+◌, ◌<◌, ◌≤◌, cond, ◌||◌, nat_le, IfOk, OnErr, OnOk, [], length, Option, Some, None};
-ghost use Rattle.std.specs.HashSet.{hash_set_len};
+ghost use Rattle.std.specs.Prelude.{◌≡◌, ◌+◌, ◌<◌, ◌≤◌, false, nat_le, is_some, IfOk, OnErr, OnOk, [], length, Some};
+ghost use Rattle.replay_model.specs.Steps.{has_ended, reads};
+ghost use Rattle.machine.specs.Cores.{first_state, settled};
 
+use crate::cells::{word_of, written};
 use light_base::{Cell, Event, Memory};
-use machine::Core;
+use machine::{Core, Limits, Program};
 use replay_model::{Access, Want};
 use std::alloc::Global;
 use std::collections::HashSet;
@@ -15,16 +17,17 @@ pub(crate) struct Sighting {
     writer: Option<Event>,
 }
 
-// One thread: its core, its steps as they are told, and what they found.
+/// One thread: its core, its steps as they are told, and what they found.
 #[derive(Drop)]
 pub(crate) struct Seat {
-    core: Core,
-    accesses: Vec<Access>,
+    pub(crate) core: Core,
+    pub(crate) accesses: Vec<Access>,
     seen: HashSet<Sighting>,
 }
 
 impl Seat {
     ghost use Rattle.history.specs.Sightings.{Sees};
+    ghost use Rattle.history.specs.Playing.{Takes, Keeps};
 
     // Adds what a step found to the pairs that were seen.
     fn see(&mut self, word: u16, found: Option<Cell>) -> Result<(), Memory>
