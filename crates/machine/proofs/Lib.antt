@@ -1,3 +1,6 @@
 pub mod Local
 pub mod Rests
 pub mod Runs
+pub mod Turning
+pub mod Keeps
+pub mod Going

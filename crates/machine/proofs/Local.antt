@@ -1,18 +1,18 @@
 -- Local instructions: where they go on, where they stop, and what they keep.
-use Rattle.std.proofs.Common.{◌≡◌, ℕ, zero, suc, ◌+◌, ◌-◌, ◌<◌, ◌≤◌, Bool, true, false, cond, ◌&&◌, leb, List, [], ◌∷◌, ◌++◌, length, refl, sym, ◌∙◌, ap, subst, arith}
+use Rattle.std.proofs.Common.{◌≡◌, ℕ, zero, suc, ◌+◌, ◌-◌, ◌<◌, ◌≤◌, Bool, true, false, cond, List, length, refl, ◌∙◌, ap, arith}
 use Rattle.std.specs.Prelude.{slice_get, slice_index, Option, Some, None}
-use Rattle.std.proofs.lemmas.Bool.{leb-false, leb-true}
+use Rattle.std.proofs.lemmas.Bool.{leb-false}
 use Rattle.std.proofs.lemmas.List.{length_push}
 use Rattle.replay_model.specs.declared.Want.{Want}
 use Rattle.replay_model.specs.declared.End.{End}
 use Rattle.machine.specs.declared.program.Instr.{Instr}
 use Rattle.machine.specs.declared.program.Op.{Op}
 use Rattle.machine.specs.declared.program.Op.TheVariants as op
-use Rattle.machine.specs.Programs.{ProgramValue, LimitsValue}
-use Rattle.machine.specs.Cores.{State, is_halt, is_memory, is_out, end_before, step_wanted, ended_or, comes_to, ran, instr_or_halt, waiting, waiting_or, run_local, run_on}
+use Rattle.machine.specs.Programs.{LimitsValue}
+use Rattle.machine.specs.Cores.{State, is_halt, end_before, step_wanted, ended_or, comes_to, ran, instr_or_halt, waiting, waiting_or, run_local, run_on}
 
 -- where neither an end nor a memory step comes, no end comes
-no_end : (e : Option End) (w : Option Want) → ended_or e w ≡ None → (e ≡ None) × (w ≡ None)
+pub no_end : (e : Option End) (w : Option Want) → ended_or e w ≡ None → (e ≡ None) × (w ≡ None)
 no_end None w h = (refl, h)
 no_end (Some e) w h = cc
 
@@ -114,8 +114,23 @@ run_local-follows zero code words limits full s = record { thread = refl; steps 
 run_local-follows (suc n) code words limits full s =
     let i = instr_or_halt (slice_get code s.place) in
     waiting_or-follows s (slice_get code s.place) (comes_to words limits full s (slice_get code s.place)) _
-        (follows_all (ran-follows i.op s i) (run_local-follows n code words limits full (ran i.op s i)))
+    (follows_all (ran-follows i.op s i) (run_local-follows n code words limits full (ran i.op s i)))
 
 pub run_on-follows : (code : List Instr) (words : ℕ) (limits : LimitsValue) (full : Bool) (s : State) → Follows s (run_on code words limits full s)
 unfolding run_on
 run_on-follows code words limits full s = run_local-follows _ code words limits full s
+
+-- how many entries a log may have does not matter to local instructions
+pub run_local-entries : (n : ℕ) (code : List Instr) (words : ℕ) (limits : LimitsValue) (entries : ℕ) (full : Bool) (s : State) →
+    run_local n code words (record limits { entries = entries }) full s ≡ run_local n code words limits full s
+unfolding run_local
+run_local-entries zero code words limits entries full s = refl
+run_local-entries (suc n) code words limits entries full s =
+    let o = slice_get code s.place in
+    let i = instr_or_halt o in
+    ap (λ (next : State). waiting_or s o (comes_to words limits full s o) next) (run_local-entries n code words limits entries full (ran i.op s i))
+
+pub run_on-entries : (code : List Instr) (words : ℕ) (limits : LimitsValue) (entries : ℕ) (full : Bool) (s : State) →
+    run_on code words (record limits { entries = entries }) full s ≡ run_on code words limits full s
+unfolding run_on
+run_on-entries code words limits entries full s = run_local-entries _ code words limits entries full s

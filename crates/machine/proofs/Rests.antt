@@ -1,5 +1,5 @@
 -- What a thread comes to at the end of its local instructions.
-use Rattle.std.proofs.Common.{◌≡◌, ℕ, zero, suc, ◌+◌, ◌-◌, ◌<◌, ◌≤◌, Bool, true, false, cond, ◌&&◌, leb, List, [], ◌∷◌, length, refl, sym, ◌∙◌, ap, subst, arith}
+use Rattle.std.proofs.Common.{◌≡◌, ℕ, zero, suc, ◌-◌, ◌<◌, Bool, true, false, ◌&&◌, leb, List, length, refl, sym, ◌∙◌, ap, subst, arith}
 use Rattle.std.specs.Prelude.{slice_get, slice_index, Option, Some, None}
 use Rattle.std.proofs.lemmas.Bool.{leb-false}
 use Rattle.replay_model.specs.Steps.{has_ended, word_of}
@@ -10,8 +10,8 @@ use Rattle.machine.specs.declared.program.Instr.{Instr}
 use Rattle.machine.specs.declared.program.Op.{Op}
 use Rattle.machine.specs.declared.program.Op.TheVariants as op
 use Rattle.machine.specs.Programs.{ProgramValue, LimitsValue, code_of, uses_a}
-use Rattle.machine.specs.Cores.{State, address_of, is_halt, is_memory, end_before, step_wanted, ended_or, comes_to, ran, instr_or_halt, waiting, waiting_or, run_local, run_on, settled, if_none}
-use Rattle.machine.proofs.Local.{passed, GoesOn, going_instr, ran-follows, run_on-stop}
+use Rattle.machine.specs.Cores.{State, address_of, is_memory, end_before, step_wanted, ended_or, comes_to, ran, instr_or_halt, waiting, waiting_or, run_local, run_on, settled, if_none}
+use Rattle.machine.proofs.Local.{passed, GoesOn, going_instr, ran-follows}
 
 -- a memory step that the thread has come to at this instruction is one that it may take
 pub record IsTaken (words : ℕ) (limits : LimitsValue) (s : State) (i : Instr) (wanted : Want) : Type 0 where
@@ -73,12 +73,18 @@ pub record Settles (words : ℕ) (limits : LimitsValue) (old new : State) : Type
 
 waiting-settles : (words : ℕ) (limits : LimitsValue) (full : Bool) (s : State) (o : Option Instr) (wanted : Want) → comes_to words limits full s o ≡ Some wanted → Settles words limits s (waiting s o wanted)
 waiting-settles words limits full s None wanted h = record {
-  thread = refl; steps = refl; wanted = wanted; pending = refl;
+  thread = refl;
+  steps = refl;
+  wanted = wanted;
+  pending = refl;
   word = λ lives. let e = comes-past words limits full s wanted h in cc;
   room = λ lives. let e = comes-past words limits full s wanted h in cc;
 }
 waiting-settles words limits full s (Some i) wanted h = record {
-  thread = refl; steps = refl; wanted = wanted; pending = refl;
+  thread = refl;
+  steps = refl;
+  wanted = wanted;
+  pending = refl;
   word = λ lives. (comes-taken words limits full s i wanted h lives).word;
   room = λ lives. (comes-taken words limits full s i wanted h lives).steps;
 }
@@ -92,7 +98,11 @@ ran-settles : (words : ℕ) (limits : LimitsValue) (s : State) (i : Instr) (new 
 ran-settles words limits s i new h =
     let f = ran-follows i.op s i in
     record {
-      thread = h.thread ∙ f.thread; steps = h.steps ∙ f.steps; wanted = h.wanted; pending = h.pending; word = h.word;
+      thread = h.thread ∙ f.thread;
+      steps = h.steps ∙ f.steps;
+      wanted = h.wanted;
+      pending = h.pending;
+      word = h.word;
       room = λ lives. (let r = h.room lives in let e = f.steps in omega (arith, r, e));
     }
 
@@ -101,8 +111,8 @@ unfolding run_local
 run_local-settles zero code words limits full s h = absurd (omega arith)
 run_local-settles (suc n) code words limits full s h =
     waiting_or-settles words limits full s (slice_get code s.place) (comes_to words limits full s (slice_get code s.place)) refl _
-        (λ g. let room = g.room in let counts = g.counts in
-        ran-settles words limits s (instr_or_halt (slice_get code s.place)) _ (run_local-settles n code words limits full _ (omega arith)))
+    (λ g. let room = g.room in let counts = g.counts in
+    ran-settles words limits s (instr_or_halt (slice_get code s.place)) _ (run_local-settles n code words limits full _ (omega arith)))
 
 pub run_on-settles : (code : List Instr) (words : ℕ) (limits : LimitsValue) (full : Bool) (s : State) → Settles words limits s (run_on code words limits full s)
 unfolding run_on

@@ -176,6 +176,14 @@ want_or w (Some wanted) = wanted
 abbrev pub pending_want : State → Want
 pending_want s = want_or (want.Ended end.Halted) s.pending
 
+-- whether the step only writes
+abbrev pub is_store : Want → Bool
+is_store (want.Load word) = false
+is_store (want.Store word value) = true
+is_store (want.Swap word value) = false
+is_store (want.Cond word seen value) = false
+is_store (want.Ended e) = false
+
 abbrev pub end_of : Want → Option End
 end_of (want.Load word) = None
 end_of (want.Store word value) = None
