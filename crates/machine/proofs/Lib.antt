@@ -4,3 +4,5 @@ pub mod Runs
 pub mod Turning
 pub mod Keeps
 pub mod Going
+pub mod Faults
+pub mod Rules
