@@ -7,9 +7,8 @@ ghost use Rattle.machine.specs.Runs.{reports_of, values_of};
 ghost use Rattle.history.specs.Played.{unplayed, world_of, thread_steps, after_turns, steps_in, HasBegun, IsOver};
 ghost use Rattle.history.specs.Stepping.{IsStep};
 
-use crate::cells::{found_in, put, word_of};
 use crate::seat::Seat;
-use light_base::{Cell, Event, Memory, Tag};
+use light_base::{Cell, Memory};
 use machine::{Access, End, Limits, Program, RunReport, Want};
 use std::alloc::Global;
 use std::marker::Model;
@@ -50,6 +49,23 @@ impl<'p> Model for Plain<'p> {
 }
 
 impl<'p> Plain<'p> {
+    /// Takes a step of a thread; where it has ended, nothing changes. After an `Err` all is as before.
+    pub fn step(&mut self, thread: u8) -> Result<Stepped, Memory>
+        requires { thread < length self.old.program.threads }
+        ensures ok { IfOk result (λ stepped. IsStep self.old thread stepped self.new) }
+        ensures err { OnErr result (self.new ≡ self.old) }
+    {
+        let place = usize::from(thread);
+        let want = self.seats[place].run(self.program, &self.limits)?;
+        if let Want::Ended(end) = want {
+            return Ok(Stepped::Ended(end));
+        }
+        self.taken.reserve(1)?;
+        let access = self.seats[place].step(&mut self.cells, thread, &want)?;
+        self.taken.push_reserved(thread);
+        Ok(Stepped::Took(access))
+    }
+
     /// The history so far: one thread number for each step.
     pub fn taken(&self) -> &[u8]
         ensures { result.now ≡ self.now.taken }
