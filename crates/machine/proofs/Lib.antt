@@ -10,3 +10,4 @@ pub mod ImageHead
 pub mod ImageSteps
 pub mod ImageNumbers
 pub mod ImageInstrs
+pub mod Keeping
