@@ -1,5 +1,5 @@
 // Reading the image of a program.
-ghost use Rattle.std.specs.Prelude.{◌≡◌, ◌*◌, ◌≤◌, if◌then◌else◌, length, sum, Some, None, Ok, true, IfOk};
+ghost use Rattle.std.specs.Prelude.{◌≡◌, ◌*◌, ◌≤◌, if◌then◌else◌, length, sum, Some, None, Ok, true, IfOk, IfSome, OnSome};
 ghost use Rattle.std.specs.List.{list_all};
 ghost use Rattle.std.specs.Int.{w16, w32};
 ghost use Rattle.machine.specs.Programs.{code_lists};
@@ -12,7 +12,8 @@ use std::alloc::{AllocError, Global};
 
 // The number of threads and the number of words.
 fn counts_of(bytes: &[u8]) -> Result<(usize, usize), ImageFault>
-    ensures { result ≡ after (counts_fault bytes.now) (Ok (threads_in bytes.now, words_in bytes.now)) }
+    ensures value { result ≡ after (counts_fault bytes.now) (Ok (threads_in bytes.now, words_in bytes.now)) }
+    ensures most { IfOk result (λ counts. (counts.0 ≤ 15) × (counts.1 ≤ 4096)) }
 {
     let Some(words) = u16_at(bytes, 5) else {
         return Err(ImageFault::whole(ImageKind::Short));
@@ -31,7 +32,8 @@ fn counts_of(bytes: &[u8]) -> Result<(usize, usize), ImageFault>
 // The lengths of so many codes.
 fn lengths_of(alloc: Global, count: usize, bytes: &[u8]) -> Result<Vec<u16>, AllocError>
     requires { 2 * count ≤ length bytes.now }
-    ensures { IfOk result (λ lengths. lengths.items ≡ numbers_at w16 count bytes.now) }
+    ensures value { IfOk result (λ lengths. lengths.items ≡ numbers_at w16 count bytes.now) }
+    ensures count { IfOk result (λ lengths. length lengths.items ≡ count) }
 {
     let mut lengths = Vec::with_capacity(alloc, count)?;
     for i in 0..count {
@@ -55,7 +57,9 @@ fn words_of(alloc: Global, count: usize, bytes: &[u8]) -> Result<Vec<u32>, Alloc
 // How many instructions codes of these lengths have. None where a code is too long.
 fn total_of(lengths: &[u16]) -> Option<usize>
     requires { length lengths.now ≤ 15 }
-    ensures { result ≡ (if list_all is_short_length lengths.now then Some (sum lengths.now) else None) }
+    ensures value { result ≡ (if list_all is_short_length lengths.now then Some (sum lengths.now) else None) }
+    ensures short { OnSome result (list_all is_short_length lengths.now ≡ true) }
+    ensures most { IfSome result (λ total. total ≤ 61440) }
 {
     let mut total = 0;
     for len in lengths {
