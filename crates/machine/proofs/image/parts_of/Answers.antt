@@ -40,7 +40,7 @@ returns-in_err-codes c =
     let total = total_some (list_all is_short_length lens) (sum lens) c.in-Some.total c.in-Some.ensures.short c.in-Some.ensures.value in
     let has : HasCodes bytes t w lens = record { lengths = lengths; short = c.in-Some.ensures.short; codes_there = omega (arith, total, c.if-bytes-end.false) } in
     let same : codes_at 0 lens (drop place bytes) ≡ codes_at 0 c.deref-2.result.now (take (length bytes - place) (drop place bytes)) =
-        ap (λ (ls : List ℕ). codes_at 0 ls (drop place bytes)) (c.deref.ensures.value ∙ sym c.deref-2.ensures.value) ∙ ap (codes_at 0 c.deref-2.result.now) (sym (take_rest bytes place)) in
+    ap (λ (ls : List ℕ). codes_at 0 ls (drop place bytes)) (c.deref.ensures.value ∙ sym c.deref-2.ensures.value) ∙ ap (codes_at 0 c.deref-2.result.now) (sym (take_rest bytes place)) in
     let p = err_from_is_err_and c.from_residual-in_err-codes.result c.from_residual-in_err-codes.ensures.1 in
     rw (p.1, p.2) (λ h. image_fault bytes t w lens c.in_err-codes.field-0.0 has (same ∙ c.in_err-codes.ensures h))
 
@@ -55,7 +55,7 @@ returns-then-end-bytes c =
     let total = total_some (list_all is_short_length lens) (sum lens) c.in-Some.total c.in-Some.ensures.short c.in-Some.ensures.value in
     let has : HasCodes bytes t w lens = record { lengths = lengths; short = c.in-Some.ensures.short; codes_there = omega (arith, total, c.if-bytes-end.false) } in
     let same : codes_at 0 lens (drop place bytes) ≡ codes_at 0 c.deref-2.result.now (take (length bytes - place) (drop place bytes)) =
-        ap (λ (ls : List ℕ). codes_at 0 ls (drop place bytes)) (c.deref.ensures.value ∙ sym c.deref-2.ensures.value) ∙ ap (codes_at 0 c.deref-2.result.now) (sym (take_rest bytes place)) in
+    ap (λ (ls : List ℕ). codes_at 0 ls (drop place bytes)) (c.deref.ensures.value ∙ sym c.deref-2.ensures.value) ∙ ap (codes_at 0 c.deref-2.result.now) (sym (take_rest bytes place)) in
     λ _. rw c.whole-then-end-bytes.ensures (image_long bytes t w lens (code_lists c.in_ok-codes.codes.items) has (same ∙ c.in_ok-codes.ensures) (omega (arith, total, c.if-end-bytes.true)))
 
 pub returns : goal.returns
@@ -69,6 +69,6 @@ returns c =
     let total = total_some (list_all is_short_length lens) (sum lens) c.in-Some.total c.in-Some.ensures.short c.in-Some.ensures.value in
     let has : HasCodes bytes t w lens = record { lengths = lengths; short = c.in-Some.ensures.short; codes_there = omega (arith, total, c.if-bytes-end.false) } in
     let same : codes_at 0 lens (drop place bytes) ≡ codes_at 0 c.deref-2.result.now (take (length bytes - place) (drop place bytes)) =
-        ap (λ (ls : List ℕ). codes_at 0 ls (drop place bytes)) (c.deref.ensures.value ∙ sym c.deref-2.ensures.value) ∙ ap (codes_at 0 c.deref-2.result.now) (sym (take_rest bytes place)) in
+    ap (λ (ls : List ℕ). codes_at 0 ls (drop place bytes)) (c.deref.ensures.value ∙ sym c.deref-2.ensures.value) ∙ ap (codes_at 0 c.deref-2.result.now) (sym (take_rest bytes place)) in
     let values : c.in_ok-words.words.items ≡ numbers_at w32 w (drop (7 + 2 * t) bytes) = c.in_ok-words.ensures ∙ ap (numbers_at w32 w) (take_rest bytes (7 + 2 * t)) in
     image_is bytes t w lens (code_lists c.in_ok-codes.codes.items) c.in_ok-words.words.items has (same ∙ c.in_ok-codes.ensures) (omega (arith, total, c.if-end-bytes.false)) values
