@@ -11,3 +11,5 @@ pub mod ImageSteps
 pub mod ImageNumbers
 pub mod ImageInstrs
 pub mod Keeping
+pub mod ImageLaws
+pub mod ImageExamples
