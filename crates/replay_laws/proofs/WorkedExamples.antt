@@ -15,6 +15,7 @@ use Rattle.replay_model.specs.Logs.{ThreadLog, no_thread}
 use Rattle.replay_model.specs.Events.{events_of}
 use Rattle.replay_model.specs.Orders.{place, Respects}
 use Rattle.replay_model.specs.WellFormed.{IsInRange}
+use Rattle.replay_model.specs.RunLogs.{HasLog}
 use Rattle.replay_model.specs.SkipPlay.{moves, turn, turns, finish}
 use Rattle.replay_model.specs.WholeHistories.{IsWholeHistory, history_order}
 use Rattle.replay_laws.specs.Scripts.{Script, one_each}
@@ -22,6 +23,7 @@ use Rattle.replay_laws.specs.Examples
 use Rattle.replay_laws.proofs.Bridge.{word_steps_played}
 use Rattle.replay_laws.proofs.Scripts.{script_within, script_only, script_ends, script_keeps}
 use Rattle.replay_laws.proofs.Places.{place-contains, event-is_event}
+use Rattle.replay_laws.proofs.Verdict.{skipped_fit}
 use Rattle.replay_laws.proofs.HistoryLog.{history_fits, history_respects, history_replayed}
 use Rattle.replay_laws.proofs.WellFormedLog.{history_formed}
 
@@ -219,12 +221,12 @@ lost_update_bridge = word_steps_played (Examples.example_threads (Examples.incre
 -- a log that no history has, which runs fit all the same
 pub forced_between : Examples.ForcedBetween
 unfolding play move take_step thread_log moves turn turns finish
-forced_between = record { logs = refl; lasts = refl }
-
--- a log that no runs fit
-pub no_fit : Examples.NoFit
-unfolding play move take_step thread_log moves turn turns finish
-no_fit has = let e : (Examples.entry 0 None 1 1 ∷ []) ≡ (Examples.entry 0 (Some (Examples.at 1 1)) 1 1 ∷ []) = ap (λ (x : List ThreadLog). (slice_index_or x 0 no_thread).entries) has.logs in cc e
+forced_between = (has, skipped_fit Examples.forced_between_threads one_each (0 ∷ 0 ∷ []) Examples.forced_between_log (Examples.at 0 1 ∷ Examples.at 0 3 ∷ Examples.at 1 1 ∷ Examples.at 1 2 ∷ Examples.at 1 3 ∷ [])
+    (script_within (Examples.counts ∷ Examples.looks_back ∷ []) 2 Examples.example_limits) (script_only (Examples.counts ∷ Examples.looks_back ∷ []) 2 Examples.example_limits)
+    (script_ends (Examples.counts ∷ Examples.looks_back ∷ []) 2 Examples.example_limits) has, refl)
+  where
+    has : HasLog Examples.forced_between_threads one_each Examples.forced_between_log Examples.forced_between_end
+    has = record { logs = refl; lasts = refl }
 
 -- one entry is allowed
 pub one_entry : Examples.OneEntry

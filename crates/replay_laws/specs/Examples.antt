@@ -7,6 +7,7 @@ use Rattle.replay_model.specs.declared.Entry.{Entry}
 use Rattle.replay_model.specs.declared.Want.{Want}
 use Rattle.replay_model.specs.declared.Want.TheVariants.{Load, Store, Swap, Cond, Ended}
 use Rattle.replay_model.specs.declared.End.TheVariants.{Halted, EntriesFull}
+use Rattle.replay_model.specs.Steps.{Step}
 use Rattle.replay_model.specs.Threads.{Threads}
 use Rattle.replay_model.specs.Histories.{World, rounds, follow}
 use Rattle.replay_model.specs.WordSteps.{WordStep}
@@ -231,10 +232,17 @@ forced_between_log = record {
   lasts = Some (at 1 3) ∷ Some (at 0 3) ∷ [];
 }
 
--- A write forced between: the unseen write is no event, so the skip play has the log all the same
+abbrev pub forced_between_threads : Threads
+forced_between_threads = example_threads (counts ∷ looks_back ∷ []) (0 ∷ 0 ∷ [])
+
+abbrev pub forced_between_end : World
+forced_between_end = skip_play forced_between_threads (0 ∷ 0 ∷ []) forced_between_log (at 0 1 ∷ at 0 3 ∷ at 1 1 ∷ at 1 2 ∷ at 1 3 ∷ [])
+
+-- A write forced between: the unseen write is no event, so the skip play has the log all the same, and its runs fit it
 abbrev pub ForcedBetween : Type 0
-ForcedBetween = HasLog (example_threads (counts ∷ looks_back ∷ []) (0 ∷ 0 ∷ [])) one_each forced_between_log
-    (skip_play (example_threads (counts ∷ looks_back ∷ []) (0 ∷ 0 ∷ [])) (0 ∷ 0 ∷ []) forced_between_log (at 0 1 ∷ at 0 3 ∷ at 1 1 ∷ at 1 2 ∷ at 1 3 ∷ []))
+ForcedBetween = HasLog forced_between_threads one_each forced_between_log forced_between_end ×
+    Fits forced_between_threads one_each (0 ∷ 0 ∷ []) forced_between_log forced_between_end.threads ×
+    (forced_between_end.memory ≡ cell 9 (Some (at 1 3)) ∷ cell 3 (Some (at 0 3)) ∷ [])
 
 -- a log in which a thread that only reads has written
 abbrev pub no_fit_log : Log
@@ -246,10 +254,17 @@ no_fit_log = record {
   lasts = Some (at 1 1) ∷ [];
 }
 
--- No fit: the skip play does not have the log
+abbrev pub no_fit_order : List Event
+no_fit_order = at 1 1 ∷ at 0 1 ∷ []
+
+abbrev pub no_fit_threads : Threads
+no_fit_threads = example_threads (reads_once ∷ reads_once ∷ []) (5 ∷ [])
+
+-- No fit: an order respects the log, but the skip play by it does not have the log, and no runs fit it
 abbrev pub NoFit : Type 0
-NoFit = HasLog (example_threads (reads_once ∷ reads_once ∷ []) (5 ∷ [])) one_each no_fit_log
-    (skip_play (example_threads (reads_once ∷ reads_once ∷ []) (5 ∷ [])) (5 ∷ []) no_fit_log (at 1 1 ∷ at 0 1 ∷ [])) → ⊥
+NoFit = Respects no_fit_log no_fit_order ×
+    (HasLog no_fit_threads one_each no_fit_log (skip_play no_fit_threads (5 ∷ []) no_fit_log no_fit_order) → ⊥) ×
+    ((runs : List (List Step)) → Fits no_fit_threads one_each (5 ∷ []) no_fit_log runs → ⊥)
 
 -- reads word 0, writes word 1 and reads word 1
 abbrev pub reads_twice : Script
