@@ -12,6 +12,7 @@ use Rattle.replay_model.proofs.Moves.{each_thread, move_shape}
 use Rattle.replay_model.proofs.WordSteps.{step_of, part-append, part_own, part_other}
 use Rattle.replay_laws.specs.BridgeLaws.{threads_in, parts, IsPlayed}
 
+-- the rest of a list, played from where the earlier part led
 pub bridge : (threads : Threads) (count : ℕ) (list earlier : List WordStep) (world : World) (end : List Cell) →
     length world.threads ≡ count → ((t : ℕ) → t < count → steps_of world.threads t ≡ part t earlier) →
     All (λ (e : WordStep). e.thread < count) list →

@@ -1,8 +1,7 @@
 -- A log that an order respects and no runs fit.
-use Rattle.std.proofs.Common.{◌≡◌, ℕ, zero, suc, ◌+◌, ◌<◌, ◌≤◌, true, false, List, [], ◌∷◌, length, refl, sym, ◌∙◌, ap, subst, arith, inl, inr, ◌⊎◌}
+use Rattle.std.proofs.Common.{◌≡◌, ℕ, zero, suc, ◌<◌, ◌≤◌, List, [], ◌∷◌, length, refl, sym, ◌∙◌, ap, subst, arith, inl, inr, ◌⊎◌}
 use Rattle.std.specs.Prelude.{◌≢◌, Some, None, Contains, slice_index_or}
 use Rattle.light_base.specs.declared.tag.Event.{Event}
-use Rattle.light_base.specs.declared.tag.Tag.{Tag}
 use Rattle.replay_model.specs.declared.Entry.{Entry}
 use Rattle.replay_model.specs.Logs.{HasEntry, ThreadLog, no_thread, last_tag, first_event, last_event}
 use Rattle.replay_model.specs.Histories.{play, move, take_step}

@@ -21,9 +21,11 @@ use Rattle.replay_model.specs.WholeHistories.{IsWholeHistory, played, history_lo
 use Rattle.replay_laws.specs.BridgeLaws.{IsPlayed}
 use Rattle.replay_laws.specs.Scripts.{Script, script_threads, one_each}
 
+-- limits that no example reaches
 abbrev pub example_limits : Limits
 example_limits = record { steps = 100; instr = 100; entries = 100 }
 
+-- the threads of these scripts
 abbrev pub example_threads : List Script → List ℕ → Threads
 example_threads scripts initial = script_threads scripts (length initial) example_limits
 
@@ -38,9 +40,11 @@ example_log scripts initial history = history_log (example_threads scripts initi
 abbrev pub at : ℕ → ℕ → Event
 at t n = record { thread = t; step = n }
 
+-- an entry
 abbrev pub entry : ℕ → Tag → ℕ → ℕ → Entry
 entry word source first last = record { word = word; source = source; first = first; last = last }
 
+-- a cell
 abbrev pub cell : ℕ → Tag → Cell
 cell value tag = record { value = value; tag = tag }
 
@@ -232,9 +236,11 @@ forced_between_log = record {
   lasts = Some (at 1 3) ∷ Some (at 0 3) ∷ [];
 }
 
+-- the threads of this example
 abbrev pub forced_between_threads : Threads
 forced_between_threads = example_threads (counts ∷ looks_back ∷ []) (0 ∷ 0 ∷ [])
 
+-- the state after the skip play of that log
 abbrev pub forced_between_end : World
 forced_between_end = skip_play forced_between_threads (0 ∷ 0 ∷ []) forced_between_log (at 0 1 ∷ at 0 3 ∷ at 1 1 ∷ at 1 2 ∷ at 1 3 ∷ [])
 
@@ -254,9 +260,11 @@ no_fit_log = record {
   lasts = Some (at 1 1) ∷ [];
 }
 
+-- an order of its events
 abbrev pub no_fit_order : List Event
 no_fit_order = at 1 1 ∷ at 0 1 ∷ []
 
+-- two threads that only read
 abbrev pub no_fit_threads : Threads
 no_fit_threads = example_threads (reads_once ∷ reads_once ∷ []) (5 ∷ [])
 
@@ -273,6 +281,7 @@ reads_twice (c ∷ []) = Store 1 0
 reads_twice (c ∷ d ∷ []) = Load 1
 reads_twice (c ∷ d ∷ e ∷ rest) = Ended Halted
 
+-- limits with room for one entry
 abbrev pub one_entry_limits : Limits
 one_entry_limits = record { steps = 100; instr = 100; entries = 1 }
 

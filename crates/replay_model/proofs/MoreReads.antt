@@ -1,24 +1,23 @@
 -- The log of a thread after one more step.
 use Rattle.std.proofs.Common.{◌≡◌, ℕ, suc, ◌+◌, ◌-◌, ◌<◌, ◌≤◌, Bool, true, false, cond, eqb, List, [], ◌∷◌, ◌++◌, length, refl, sym, ◌∙◌, ap, subst, arith, inl, inr, ◌⊎◌, map, Contains}
-use Rattle.std.specs.Prelude.{Option, Some, None, ◌&&◌, max}
+use Rattle.std.specs.Prelude.{Option, Some, None, ◌&&◌, max, All, slice_index_or, slice_set, ◌≢◌}
 use Rattle.std.specs.List.{list_any}
-use Rattle.std.proofs.lemmas.List.{append_assoc, append-nil, map-append}
-use Rattle.std.proofs.lemmas.Bool.{cases_Bool, eq-eqb, eqb-true, ne_eqb, and_from, and_parts, cond-true, cond-false}
+use Rattle.std.proofs.lemmas.List.{append_assoc, append-nil, map-append, length-map, length-set, get_or-map, get_or-set_same, get_or-set_other, get_or_default, same_lists}
+use Rattle.std.proofs.lemmas.Bool.{cases_Bool, eq-eqb, eqb-true, ne_eqb, and_from, and_parts, cond-true, cond-false, cases_eq}
 use Rattle.replay_model.specs.Steps.{Tag, Cell, Step, same_tag, word_of}
 use Rattle.replay_model.specs.ThreadLogs.{Entry, saw, is_sight, numbers, least, greatest, entry_at, entries_from, thread_log}
 use Rattle.replay_model.specs.MoreReads.{is_entry_for, touched, with_read}
 use Rattle.replay_model.proofs.Tags.{same_tag-true, same_tag-same, any-element, element-any}
 use Rattle.replay_model.proofs.ThreadLogs.{nth, saw-found, saw-from, entry_for, greatest_over, greatest_at, thread_log-covers, thread_log-stands}
-use Rattle.std.proofs.lemmas.Bool.{cases_eq}
 use Rattle.std.proofs.lemmas.List.Elements.{All-weaker, All-contains_itself}
 use Rattle.std.proofs.lemmas.List.Folds.{map_fixed, list_any_none, list_any_at}
-use Rattle.std.proofs.lemmas.List.{length-map, length-set, get_or-map, get_or-set_same, get_or-set_other, get_or_default, same_lists}
-use Rattle.std.specs.Prelude.{All, slice_index_or, slice_set, ◌≢◌}
 
+-- whether there is no number
 abbrev pub is_nil : List ℕ → Bool
 is_nil [] = true
 is_nil (n ∷ ns) = false
 
+-- the numbers of a pair after one more step
 pub numbers-push : (word : ℕ) (tag : Tag) (n : ℕ) (steps : List Step) (s : Step) →
     numbers word tag n (steps ++ s ∷ []) ≡ numbers word tag n steps ++ cond (saw word tag s) ((n + length steps) ∷ []) []
 numbers-push word tag n [] s =
@@ -35,14 +34,17 @@ numbers-push word tag n (x ∷ steps) s = go (numbers-push word tag (n + 1) step
     go ih (inl t) = rw t (ap (λ (y : List ℕ). n ∷ y) (ih ∙ ap (λ (k : ℕ). numbers word tag (n + 1) steps ++ cond (saw word tag s) (k ∷ []) []) z))
     go ih (inr f) = rw f (ih ∙ ap (λ (k : ℕ). numbers word tag (n + 1) steps ++ cond (saw word tag s) (k ∷ []) []) z)
 
+-- more numbers at the end leave the least
 pub least-append : (xs ys : List ℕ) → (xs ≡ [] → ⊥) → least (xs ++ ys) ≡ least xs
 least-append [] ys n = absurd (n refl)
 least-append (x ∷ xs) ys n = refl
 
+-- and may raise the greatest
 pub greatest-push : (xs : List ℕ) (m : ℕ) → greatest (xs ++ m ∷ []) ≡ max (greatest xs) m
 greatest-push [] m = omega arith
 greatest-push (x ∷ xs) m = let h = greatest-push xs m in omega (arith, h)
 
+-- no number is past the last step
 pub greatest_below : (word : ℕ) (tag : Tag) (n : ℕ) (steps : List Step) → greatest (numbers word tag n steps) ≤ n + length steps
 greatest_below word tag n [] = omega arith
 greatest_below word tag n (x ∷ steps) = go (greatest_below word tag (n + 1) steps) (cases_Bool (saw word tag x))
@@ -52,6 +54,7 @@ greatest_below word tag n (x ∷ steps) = go (greatest_below word tag (n + 1) st
     go ih (inl t) = rw t (omega (arith, ih))
     go ih (inr f) = rw f (omega (arith, ih))
 
+-- the entries of one more step come at the end
 pub entries_from-append : (whole : List Step) (n : ℕ) (xs : List Step) (s : Step) →
     entries_from whole n (xs ++ s ∷ []) ≡ entries_from whole n xs ++ entry_at whole (n + length xs) (word_of s.want) s.found
 entries_from-append whole n [] s =
@@ -90,6 +93,7 @@ entry_at-push whole n word (Some c) s cell q some =
     one true new e = ap (λ (x : Entry). x ∷ []) e
     one false new e = refl
 
+-- the entries of all earlier steps, after one more read
 pub entries_from-push : (whole : List Step) (n : ℕ) (rest : List Step) (s : Step) (cell : Cell) → s.found ≡ Some cell →
     ((k : ℕ) (c : Cell) → k < length rest → (nth rest k).found ≡ Some c → numbers (word_of (nth rest k).want) c.tag 1 whole ≡ [] → ⊥) →
     entries_from (whole ++ s ∷ []) n rest ≡ map (touched (word_of s.want) cell.tag (length whole + 1)) (entries_from whole n rest)
@@ -101,6 +105,7 @@ entries_from-push whole n (x ∷ rest) s cell q some =
     ap (λ (y : List Entry). map (touched (word_of s.want) cell.tag (length whole + 1)) (entry_at whole n (word_of x.want) x.found) ++ y) b ∙
     sym (map-append (touched (word_of s.want) cell.tag (length whole + 1)) (entry_at whole n (word_of x.want) x.found) (entries_from whole (n + 1) rest))
 
+-- the least number is none of a step to come
 pub least_below : (word : ℕ) (tag : Tag) (n : ℕ) (steps : List Step) → least (numbers word tag (n + 1) steps) ≤ n + length steps
 least_below word tag n [] = omega arith
 least_below word tag n (x ∷ steps) = go (least_below word tag (n + 1) steps) (cases_Bool (saw word tag x))
@@ -194,6 +199,7 @@ numbers-quiet word tag n steps s q =
     ap (λ (f : Option Cell). numbers word tag n steps ++ cond (is_sight word tag (word_of s.want) f) ((n + length steps) ∷ []) []) q ∙
     append-nil (numbers word tag n steps)
 
+-- entries follow from the numbers alone
 pub entries_from-same : (one two : List Step) → ((word : ℕ) (tag : Tag) → numbers word tag 1 one ≡ numbers word tag 1 two) →
     (n : ℕ) (rest : List Step) → entries_from one n rest ≡ entries_from two n rest
 entries_from-same one two same n [] = refl

@@ -1,5 +1,5 @@
 -- Plays of longer lists.
-use Rattle.std.proofs.Common.{◌≡◌, ℕ, zero, suc, ◌+◌, Bool, false, List, [], ◌∷◌, ◌++◌, length, refl, ◌∙◌, ap, subst, arith}
+use Rattle.std.proofs.Common.{◌≡◌, ℕ, zero, suc, ◌+◌, Bool, false, List, [], ◌∷◌, ◌++◌, length, refl, ◌∙◌, ap, arith}
 use Rattle.replay_model.specs.Steps.{Event, has_ended}
 use Rattle.replay_model.specs.Threads.{Threads}
 use Rattle.replay_model.specs.Histories.{World, wanted, move, keep_all, play, IsLegal, next_event}
@@ -7,11 +7,13 @@ use Rattle.replay_model.specs.Events.{events_of}
 use Rattle.replay_model.specs.SkipPlay.{moves, turn, turns}
 use Rattle.replay_model.proofs.Moves.{move_count}
 
+-- a play goes on where the first part led
 pub play-append : (threads : Threads) (xs ys : List ℕ) (world : World) → play threads (xs ++ ys) world ≡ play threads ys (play threads xs world)
 unfolding play
 play-append threads [] ys world = refl
 play-append threads (t ∷ xs) ys world = play-append threads xs ys (move threads keep_all t world)
 
+-- no play changes the number of threads
 pub play_count : (threads : Threads) (turns : List ℕ) (world : World) → length (play threads turns world).threads ≡ length world.threads
 unfolding play
 play_count threads [] world = refl
@@ -42,6 +44,7 @@ unfolding moves
 moves-push threads keep zero t world = refl
 moves-push threads keep (suc n) t world = moves-push threads keep n t (move threads keep t world)
 
+-- so many steps, and then more
 pub moves-add : (threads : Threads) (keep : Event → Bool) (m n t : ℕ) (world : World) → moves threads keep (m + n) t world ≡ moves threads keep n t (moves threads keep m t world)
 unfolding moves
 moves-add threads keep zero n t world = let z : 0 + n ≡ n = omega arith in ap (λ k. moves threads keep k t world) z
