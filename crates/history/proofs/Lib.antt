@@ -3,3 +3,4 @@ pub mod Seats
 pub mod Playing
 pub mod Steps
 pub mod Turns
+pub mod Whole

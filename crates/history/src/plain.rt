@@ -1,9 +1,9 @@
 // The plain machine: all threads of a program, taken step by step on one memory.
-ghost use Rattle.std.specs.Prelude.{◌≡◌, ℕ, ◌+◌, ◌<◌, ◌≤◌, Bool, true, false, not, IfOk, OnOk, OnErr, [], length};
+ghost use Rattle.std.specs.Prelude.{◌≡◌, ℕ, ◌+◌, ◌<◌, ◌≤◌, Bool, true, false, not, IfOk, OnOk, OnErr, [], ◌∷◌, length};
 ghost use Rattle.std.specs.List.{range_with_len};
 ghost use Rattle.replay_model.specs.Steps.{accesses_from, initial_cells};
 ghost use Rattle.replay_model.specs.Histories.{round_turns};
-ghost use Rattle.machine.specs.Runs.{reports_of, values_of};
+ghost use Rattle.machine.specs.Runs.{reports_of, rounds_of, values_of};
 ghost use Rattle.history.specs.Played.{unplayed, world_of, thread_steps, after_turns, steps_in, HasBegun, IsOver};
 ghost use Rattle.history.specs.Stepping.{IsStep};
 
@@ -64,6 +64,66 @@ impl<'p> Plain<'p> {
         let access = self.seats[place].step(&mut self.cells, thread, &want)?;
         self.taken.push_reserved(thread);
         Ok(Stepped::Took(access))
+    }
+
+    // How many threads there are.
+    fn threads_count(&self) -> u8
+        ensures count { result ≡ length self.now.program.threads }
+        ensures small { result ≤ 15 }
+    {
+        self.program.threads_count() as u8
+    }
+
+    // A turn of one thread. Whether it took a step.
+    fn turn(&mut self, thread: u8) -> Result<bool, Memory>
+        requires { thread < length self.old.program.threads }
+        ensures ok { IfOk result (λ went. self.new ≡ after_turns self.old (thread ∷ [])) }
+        ensures idle { IfOk result (λ went. went ≡ false → steps_in self.old (thread ∷ []) ≡ []) }
+        ensures err { OnErr result (self.new ≡ self.old) }
+    {
+        match self.step(thread) {
+            Ok(Stepped::Took(_)) => Ok(true),
+            Ok(Stepped::Ended(_)) => Ok(false),
+            Err(refused) => Err(refused),
+        }
+    }
+
+    // A turn of each thread. Whether one of them took a step.
+    fn round(&mut self) -> Result<bool, Memory>
+        ensures ok { IfOk result (λ went. self.new ≡ after_turns self.old (range_with_len 0 (length self.old.program.threads))) }
+        ensures idle { IfOk result (λ went. went ≡ false → steps_in self.old (range_with_len 0 (length self.old.program.threads)) ≡ []) }
+        ensures err { OnErr result (HasBegun self.old (range_with_len 0 (length self.old.program.threads)) self.new) }
+    {
+        let mut went = false;
+        for thread in 0..self.threads_count() {
+            if self.turn(thread)? {
+                went = true;
+            }
+        }
+        Ok(went)
+    }
+
+    // How many steps a thread may take.
+    fn most_steps(&self) -> u32
+        ensures { result ≡ self.now.limits.steps }
+    {
+        self.limits.steps()
+    }
+
+    /// Takes rounds until every thread has ended; in a round the threads 0, 1, 2 and so on take one step each, and
+    /// ended ones are passed over. After an `Err` some first ones of these steps were taken.
+    pub fn turns(&mut self) -> Result<(), Memory>
+        ensures ok { OnOk result (self.new ≡ after_turns self.old (round_turns (length self.old.program.threads) self.old.limits.steps)) }
+        ensures over { OnOk result (IsOver self.new) }
+        ensures rounds { OnOk result (self.old.taken ≡ [] → self.new.taken ≡ rounds_of self.old.program self.old.limits) }
+        ensures err { OnErr result (HasBegun self.old (round_turns (length self.old.program.threads) self.old.limits.steps) self.new) }
+    {
+        for _round in 0..self.most_steps() {
+            if !self.round()? {
+                return Ok(());
+            }
+        }
+        Ok(())
     }
 
     /// The history so far: one thread number for each step.
