@@ -1,12 +1,12 @@
 -- What is kept of one thread, after it ran and after it took a step.
-use Rattle.std.proofs.Common.{◌≡◌, ℕ, ◌+◌, ◌<◌, Bool, true, false, cond, List, [], ◌∷◌, ◌++◌, length, refl, sym, ◌∙◌, ap, subst, arith, add-zero}
-use Rattle.std.specs.Prelude.{Option, Some, None, ◌||◌, nat_le, IsSome}
+use Rattle.std.proofs.Common.{◌≡◌, ℕ, ◌+◌, Bool, cond, List, [], ◌∷◌, ◌++◌, length, refl, sym, ◌∙◌, ap, arith, add-zero}
+use Rattle.std.specs.Prelude.{Option, Some, None, ◌||◌, nat_le}
 use Rattle.replay_model.specs.declared.Access.{Access}
 use Rattle.replay_model.specs.declared.Want.{Want}
 use Rattle.replay_model.specs.declared.Want.TheVariants as want
 use Rattle.replay_model.specs.declared.End.TheVariants as end
 use Rattle.replay_model.specs.Steps.{Tag, Cell, Step, word_of, access_of, accesses_from}
-use Rattle.replay_model.specs.ThreadLogs.{saw, is_sight, thread_log, is_full}
+use Rattle.replay_model.specs.ThreadLogs.{is_sight, thread_log, is_full}
 use Rattle.replay_model.proofs.Accesses.{accesses_from-push}
 use Rattle.replay_model.proofs.Sights.{log_length-read, log_length-quiet, has_seen-push}
 use Rattle.machine.specs.Programs.{ProgramValue, LimitsValue}
@@ -15,13 +15,10 @@ use Rattle.machine.specs.Runs.{state_after, threads_of}
 use Rattle.machine.proofs.Runs.{counts_steps, after_step, settled_pending, settled_stays}
 use Rattle.history.specs.declared.seat.Seat.{Seat}
 use Rattle.history.specs.declared.seat.Sighting.{Sighting}
-use Rattle.history.specs.Sightings.{has_pair, has_seen, new_pairs, Sees}
-use Rattle.history.specs.Playing.{IsSeat, Takes, Keeps}
+use Rattle.history.specs.Sightings.{has_pair, has_seen, new_pairs}
+use Rattle.history.specs.Playing.{run_core, IsFresh, IsSeat, Takes, Keeps}
 
--- the core after it ran up to its next step or its end
-abbrev pub run_core : ProgramValue → LimitsValue → Seat → State
-run_core p limits seat = settled p limits (nat_le limits.entries (length seat.seen.keys)) seat.core
-
+-- it comes to what its steps made of it
 pub run_core-settled : (p : ProgramValue) (limits : LimitsValue) (t : ℕ) (steps : List Step) (seat : Seat) → IsSeat p limits t steps seat →
     run_core p limits seat ≡ state_after p limits t steps
 run_core-settled p limits t steps seat is = ap (λ (n : ℕ). settled p limits (nat_le limits.entries n) seat.core) is.entries ∙ is.core
@@ -87,4 +84,15 @@ kept-seat p limits t steps old new is keeps = record {
   accesses = keeps.accesses ∙ is.accesses;
   seen = λ word tag. ap (has_pair word tag) keeps.seen ∙ is.seen word tag;
   entries = ap length keeps.seen ∙ is.entries;
+}
+
+-- a thread at its start has taken no step
+pub fresh-seat : (p : ProgramValue) (limits : LimitsValue) (t : ℕ) (seat : Seat) → IsFresh t seat → IsSeat p limits t [] seat
+unfolding thread_log
+fresh-seat p limits t seat is = record {
+  core = ap (settled p limits (is_full limits.entries [])) is.core;
+  thread = ap (λ (s : State). s.thread) is.core;
+  accesses = is.accesses;
+  seen = λ word tag. ap (has_pair word tag) is.seen;
+  entries = ap length is.seen;
 }
