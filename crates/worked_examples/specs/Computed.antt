@@ -38,8 +38,8 @@ lost_update = program (0 ∷ []) (lost_update_thread ∷ lost_update_thread ∷ 
 -- one thread writes a value and then a flag, the other waits for the flag and reads the value
 abbrev pub message_passing : ProgramValue
 message_passing = program (0 ∷ 0 ∷ []) (
-  (instr op.Const 1 0 42 ∷ instr op.Store 1 0 0 ∷ instr op.Const 2 0 1 ∷ instr op.Store 2 0 1 ∷ []) ∷
-  (instr op.Load 1 0 1 ∷ instr op.Jeq 1 0 0 ∷ instr op.Load 2 0 0 ∷ instr op.Out 2 0 0 ∷ []) ∷ [])
+    (instr op.Const 1 0 42 ∷ instr op.Store 1 0 0 ∷ instr op.Const 2 0 1 ∷ instr op.Store 2 0 1 ∷ []) ∷
+    (instr op.Load 1 0 1 ∷ instr op.Jeq 1 0 0 ∷ instr op.Load 2 0 0 ∷ instr op.Out 2 0 0 ∷ []) ∷ [])
 
 -- one read stands between two reads of another word
 abbrev pub read_between : ProgramValue
@@ -52,8 +52,8 @@ one_entry = program (0 ∷ 0 ∷ []) ((instr op.Load 1 0 0 ∷ instr op.Store 1 
 -- an address past the words, and one that wraps round to 0
 abbrev pub addresses : ProgramValue
 addresses = program (replicate 4096 0) (
-  (instr op.Load 1 0 4096 ∷ []) ∷
-  (instr op.Const 1 0 4294967295 ∷ instr op.Load 2 1 1 ∷ instr op.Out 2 0 0 ∷ []) ∷ [])
+    (instr op.Load 1 0 4096 ∷ []) ∷
+    (instr op.Const 1 0 4294967295 ∷ instr op.Load 2 1 1 ∷ instr op.Out 2 0 0 ∷ []) ∷ [])
 
 -- the transcript of the history in which the threads named take a step each, and then all in rounds
 abbrev pub Follows : ProgramValue → LimitsValue → List ℕ → List ℕ → Type 0

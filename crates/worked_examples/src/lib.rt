@@ -14,5 +14,4 @@ pub fn computed_transcripts()
     ensures reads { ReadsAreSilent }
     ensures one_entry { EntriesAreSpent }
     ensures addresses { AddressesWrap }
-{
-}
+{}
