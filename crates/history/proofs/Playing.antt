@@ -52,9 +52,9 @@ playing-same played cells seats t new is l here = record {
 
 -- the world after one more step
 pub world-step : (played : Played) (t : ℕ) → has_ended (wanted_by played t) ≡ false → world_of (after_step played t) ≡ record {
-    memory = put (world_of played).memory (word_of (wanted_by played t)) (record { thread = t; step = length (thread_steps played t) + 1 }) (wrote (wanted_by played t) (found_in (world_of played).memory (wanted_by played t)));
-    threads = slice_set (world_of played).threads t (thread_steps played t ++ next_step played t ∷ []);
-  }
+  memory = put (world_of played).memory (word_of (wanted_by played t)) (record { thread = t; step = length (thread_steps played t) + 1 }) (wrote (wanted_by played t) (found_in (world_of played).memory (wanted_by played t)));
+  threads = slice_set (world_of played).threads t (thread_steps played t ++ next_step played t ∷ []);
+}
 world-step played t lives =
     play-push (threads_in played) played.taken t (start_of played.program) ∙
     move_shape (threads_in played) keep_all t (world_of played) (wanted_by played t) refl lives
@@ -90,7 +90,7 @@ playing-step played cells seats t new is l lives here = record {
   legal = legal-push (threads_in played) played.taken t (start_of played.program) is.legal lives;
   memory =
       ap (λ (m : List Cell). put m (word_of (wanted_by played t)) (record { thread = t; step = length (thread_steps played t) + 1 }) (wrote (wanted_by played t) (found_in m (wanted_by played t)))) is.memory ∙
-          ap (λ (w : World). w.memory) (sym (world-step played t lives));
+      ap (λ (w : World). w.memory) (sym (world-step played t lives));
   counted = length-set seats t new ∙ is.counted;
   each = each_seat played (thread_steps (after_step played t)) seats t new l
       (subst (λ (s : List Step). IsSeat played.program played.limits t s new) (sym (steps-step played t (let c = is.counted in omega (arith, c, l)) lives)) here)

@@ -34,8 +34,8 @@ pub ran-seat : (p : ProgramValue) (limits : LimitsValue) (t : ℕ) (steps : List
 ran-seat p limits t steps old new is core thread accesses seen = record {
   core =
       ap (settled p limits (is_full limits.entries steps)) core ∙
-          settled_stays p limits (is_full limits.entries steps) (run_core p limits old) (settled_pending p limits (nat_le limits.entries (length old.seen.keys)) old.core) ∙
-          run_core-settled p limits t steps old is;
+      settled_stays p limits (is_full limits.entries steps) (run_core p limits old) (settled_pending p limits (nat_le limits.entries (length old.seen.keys)) old.core) ∙
+      run_core-settled p limits t steps old is;
   thread = ap (λ (s : State). s.thread) core ∙ thread;
   accesses = accesses ∙ is.accesses;
   seen = λ word tag. ap (has_pair word tag) seen ∙ is.seen word tag;
