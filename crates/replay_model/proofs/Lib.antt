@@ -7,3 +7,6 @@ pub mod RunLogs
 pub mod EntryOrder
 pub mod Plays
 pub mod WordCells
+pub mod Rounds
+pub mod Accesses
+pub mod Sights

@@ -1,5 +1,5 @@
 -- One memory step: what is wanted of the memory, what is found there, and what is written.
-use Rattle.std.specs.Prelude.{ℕ, Bool, true, false, cond, ◌&&◌, eqb, Option, Some, None, List, map, slice_index_or, slice_set}
+use Rattle.std.specs.Prelude.{ℕ, Bool, true, false, cond, ◌&&◌, eqb, Option, Some, None, List, [], ◌∷◌, ◌+◌, map, slice_index_or, slice_set}
 pub use Rattle.light_base.specs.declared.tag.Event.{Event}
 pub use Rattle.light_base.specs.declared.tag.Tag.{Tag}
 pub use Rattle.light_base.specs.declared.tag.Cell.{Cell}
@@ -77,3 +77,8 @@ put memory word event (Some value) = slice_set memory word (record { value = val
 -- step number n of a thread, as it is told
 abbrev pub access_of : ℕ → Step → Access
 access_of n step = record { step = n; word = word_of step.want; saw = step.found; wrote = wrote step.want step.found }
+
+-- the steps as they are told, the first of them being number n
+abbrev pub accesses_from : ℕ → List Step → List Access
+accesses_from n [] = []
+accesses_from n (step ∷ steps) = access_of n step ∷ accesses_from (n + 1) steps

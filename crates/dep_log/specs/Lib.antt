@@ -1,0 +1,3 @@
+pub mod AccessLogs
+pub mod Places
+pub mod RunLogs

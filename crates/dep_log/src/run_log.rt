@@ -1,0 +1,94 @@
+// What is logged of a run of all threads.
+ghost use Rattle.std.specs.Prelude.{◌≡◌};
+ghost use Rattle.dep_log.specs.RunLogs.{IsRunLog};
+
+use crate::ThreadLog;
+use light_base::Tag;
+use machine::Limits;
+use std::marker::Model;
+
+/// The log of a run of all threads: the digest of the program's image, the limits, each thread's log, and the tag that
+/// each word has at the end. It has 1 to 15 threads with at most 16,384 entries each, and 1 to 4,096 words.
+#[derive(Debug, Drop)]
+pub struct RunLog {
+    digest: [u8; 32],
+    limits: Limits,
+    threads: Vec<ThreadLog>,
+    finals: Vec<Tag>,
+}
+
+impl Model for RunLog {
+    ghost use Rattle.replay_model.specs.Logs.{Log};
+
+    ghost Value = { Log };
+
+    ghost use Rattle.dep_log.specs.RunLogs.{IsRunLog};
+
+    ghost view = { λ l. record { digest = l.digest; limits = record { steps = l.limits.steps; instr = l.limits.instr; entries = l.limits.entries }; threads = l.threads.items; lasts = l.finals.items } };
+
+    ghost invariant = { λ l. IsRunLog (record { digest = l.digest; limits = record { steps = l.limits.steps; instr = l.limits.instr; entries = l.limits.entries }; threads = l.threads.items; lasts = l.finals.items }) };
+}
+
+impl RunLog {
+    /// The log with these parts.
+    pub fn new(digest: [u8; 32], limits: Limits, threads: Vec<ThreadLog>, finals: Vec<Tag>) -> RunLog
+        requires { IsRunLog (record { digest = digest; limits = record { steps = limits.steps; instr = limits.instr; entries = limits.entries }; threads = threads.items; lasts = finals.items }) }
+        ensures { result ≡ record { digest = digest; limits = record { steps = limits.steps; instr = limits.instr; entries = limits.entries }; threads = threads.items; lasts = finals.items } }
+    {
+        RunLog {
+            digest,
+            limits,
+            threads,
+            finals,
+        }
+    }
+
+    /// Sets the digest of the program's image. All else stays.
+    pub fn set_digest(&mut self, digest: [u8; 32])
+        ensures { self.new ≡ record self.old { digest = digest } }
+    {
+        self.digest = digest;
+    }
+
+    /// The digest of the program's image.
+    pub fn digest(&self) -> &[u8; 32]
+        ensures { result.now ≡ self.now.digest }
+    {
+        &self.digest
+    }
+
+    /// The limits under which the threads ran.
+    pub fn limits(&self) -> &Limits
+        ensures { record { steps = result.now.steps; instr = result.now.instr; entries = result.now.entries } ≡ self.now.limits }
+    {
+        &self.limits
+    }
+
+    /// What is logged of each thread.
+    pub fn threads(&self) -> &[ThreadLog]
+        ensures value { result.now ≡ self.now.threads }
+        ensures rules { IsRunLog self.now }
+    {
+        &self.threads
+    }
+
+    /// The tag that each word has at the end.
+    pub fn finals(&self) -> &[Tag]
+        ensures value { result.now ≡ self.now.lasts }
+        ensures rules { IsRunLog self.now }
+    {
+        &self.finals
+    }
+
+    /// The digest, the limits, the threads' logs and the last tags.
+    pub fn into_parts(self) -> ([u8; 32], Limits, Vec<ThreadLog>, Vec<Tag>)
+        ensures digest { result.0 ≡ self.digest }
+        ensures limits { record { steps = result.1.steps; instr = result.1.instr; entries = result.1.entries } ≡ self.limits }
+        ensures threads { result.2.items ≡ self.threads }
+        ensures finals { result.3.items ≡ self.lasts }
+        ensures rules { IsRunLog self }
+    {
+        let digest = self.digest;
+        (digest, self.limits, self.threads, self.finals)
+    }
+}

@@ -1,0 +1,5 @@
+pub mod Sightings
+pub mod Seats
+pub mod Playing
+pub mod Steps
+pub mod Turns

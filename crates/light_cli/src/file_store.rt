@@ -1,0 +1,87 @@
+// A store over real files. It tells nothing of them.
+ghost use Rattle.std.specs.Prelude.{None, false, ◌≡◌, ◌≤◌, length, IfOk, IfErr, ◌+◌};
+ghost use Rattle.light_cli.specs.Reading.{ReadFails};
+
+use light_base::{Store, StoreFault};
+use std::alloc::Global;
+use std::fs;
+use std::io::{ErrorKind, Read, Write};
+use std::rt::Files;
+
+/// Files of the system, by their paths. Each failure is counted.
+#[derive(Drop)]
+pub struct FileStore<'a, R> {
+    rt: &'a R,
+    faults: u64,
+}
+
+impl<'a, R: Files> FileStore<'a, R> {
+    pub fn new(rt: &'a R) -> Self {
+        FileStore { rt, faults: 0 }
+    }
+}
+
+// Reads to the end, unless there are more than `cap` bytes. A read between which a signal came is asked again.
+fn read_all<F: Read>(alloc: Global, file: &mut F, cap: u64) -> Result<Vec<u8>, StoreFault>
+    ensures fits { IfOk result (λ bytes. length bytes.items ≤ cap) }
+    ensures cause { IfErr result (ReadFails cap) }
+{
+    let mut bytes = Vec::new(alloc);
+    let mut piece = [0u8; 4096];
+    for _ in 0..u64::MAX {
+        match file.read(&mut piece) {
+            Ok(0) => return Ok(bytes),
+            Ok(count) => {
+                if (bytes.len() + count) as u64 > cap {
+                    return Err(StoreFault::TooLong { taken: cap + 1 });
+                }
+                if bytes.extend_from_slice(&piece[..count]).is_err() {
+                    return Err(StoreFault::Memory);
+                }
+            }
+            Err(error) => {
+                if error.kind() != ErrorKind::Interrupted {
+                    return Err(StoreFault::Failed);
+                }
+            }
+        }
+    }
+    Err(StoreFault::Failed)
+}
+
+impl<R: Files> Store for FileStore<'_, R> {
+    ghost files = { λ _. None };
+
+    ghost sound = { λ _. false };
+
+    ghost faults = { λ s. s.faults };
+
+    fn load(&mut self, alloc: Global, name: &str, cap: u64) -> Result<Vec<u8>, StoreFault> {
+        let outcome = match fs::open(self.rt, name) {
+            Ok(mut file) => read_all(alloc, &mut file, cap),
+            Err(_) => Err(StoreFault::Failed),
+        };
+        match outcome {
+            Ok(bytes) => Ok(bytes),
+            Err(StoreFault::Failed) => {
+                self.faults = self.faults.saturating_add(1);
+                Err(StoreFault::Failed)
+            }
+            Err(fault) => Err(fault),
+        }
+    }
+
+    fn save(&mut self, name: &str, bytes: &[u8]) -> Result<(), StoreFault> {
+        let done = match fs::create(self.rt, name) {
+            Ok(mut file) => file.write_all(bytes),
+            Err(error) => Err(error),
+        };
+        match done {
+            Ok(()) => Ok(()),
+            Err(_) => {
+                self.faults = self.faults.saturating_add(1);
+                Err(StoreFault::Failed)
+            }
+        }
+    }
+}

@@ -1,0 +1,2 @@
+//! The commands, over any store and any sink.
+#![tactic(auto)]

@@ -1,0 +1,56 @@
+-- The bytes of a log. Numbers stand with their highest byte first.
+use Rattle.std.specs.Prelude.{ℕ, List, [], ◌∷◌, ◌++◌, length}
+use Rattle.std.specs.List.{flat_map}
+use Rattle.std.specs.Int.{w16, w32, to_be_bytes}
+use Rattle.light_base.specs.Tags.{bits_of}
+use Rattle.replay_model.specs.Steps.{Tag}
+use Rattle.replay_model.specs.declared.End.{End}
+use Rattle.replay_model.specs.declared.End.TheVariants.{Halted, InstrSpent, BadAddress, StepsSpent, EntriesFull, OutputFull}
+use Rattle.replay_model.specs.declared.Entry.{Entry}
+use Rattle.replay_model.specs.Logs.{Limits, ThreadLog, Log}
+
+-- the number of an end
+abbrev pub code_of_end : End → ℕ
+code_of_end Halted = 0
+code_of_end InstrSpent = 1
+code_of_end (BadAddress address) = 2
+code_of_end StepsSpent = 3
+code_of_end EntriesFull = 4
+code_of_end OutputFull = 5
+
+-- the address that no word has, and 0 at another end
+abbrev pub address_of_end : End → ℕ
+address_of_end Halted = 0
+address_of_end InstrSpent = 0
+address_of_end (BadAddress address) = address
+address_of_end StepsSpent = 0
+address_of_end EntriesFull = 0
+address_of_end OutputFull = 0
+
+-- the first four bytes of each log: LLG1
+abbrev pub magic : List ℕ
+magic = 76 ∷ 76 ∷ 71 ∷ 49 ∷ []
+
+unfoldable pub limits_bytes : Limits → List ℕ
+limits_bytes l = to_be_bytes w32 l.steps ++ to_be_bytes w32 l.instr ++ to_be_bytes w32 l.entries
+
+-- how a thread ended, how far it came, and how many entries it has
+abbrev pub header_bytes : ThreadLog → List ℕ
+header_bytes t = code_of_end t.end ∷ [] ++ to_be_bytes w32 (address_of_end t.end) ++ to_be_bytes w32 t.steps ++ to_be_bytes w32 t.instr ++ to_be_bytes w32 (length t.entries)
+
+abbrev pub tag_bytes : Tag → List ℕ
+tag_bytes writer = to_be_bytes w32 (bits_of writer)
+
+abbrev pub entry_bytes : Entry → List ℕ
+entry_bytes e = to_be_bytes w16 e.word ++ tag_bytes e.source ++ to_be_bytes w32 e.first ++ to_be_bytes w32 e.last
+
+abbrev pub entries_bytes : ThreadLog → List ℕ
+entries_bytes t = flat_map entry_bytes t.entries
+
+-- the numbers of threads and of words, the digest and the limits, behind the first four bytes
+unfoldable pub head_bytes : Log → List ℕ
+head_bytes log = magic ++ length log.threads ∷ [] ++ to_be_bytes w16 (length log.lasts) ++ log.digest ++ limits_bytes log.limits
+
+-- the head, a header for each thread, the last tag of each word, and the entries, thread after thread
+unfoldable pub spelling : Log → List ℕ
+spelling log = head_bytes log ++ flat_map header_bytes log.threads ++ flat_map tag_bytes log.lasts ++ flat_map entries_bytes log.threads

@@ -1,0 +1,12 @@
+// The digest of an image.
+ghost use Rattle.std.specs.Prelude.{◌≡◌};
+ghost use Rattle.sha2.specs.Sha256.{sha256};
+
+use sha2::{Digest, Sha256};
+
+/// The SHA-256 of an image.
+pub fn digest_of(image: &[u8]) -> [u8; 32]
+    ensures { result ≡ sha256 image.now }
+{
+    Sha256::digest(image)
+}

@@ -1,0 +1,145 @@
+// The bytes of a log.
+ghost use Rattle.std.specs.Prelude.{◌≡◌, ◌+◌, ◌*◌, ◌≤◌, ◌++◌, All, IfOk, OnOk, length};
+ghost use Rattle.std.specs.List.{flat_map, sum_by};
+ghost use Rattle.dep_log.specs.RunLogs.{IsRunLog};
+ghost use Rattle.log_file.specs.Spelling.{address_of_end, code_of_end, entries_bytes, entry_bytes, head_bytes, header_bytes, limits_bytes, spelling, tag_bytes};
+
+use dep_log::{Entry, RunLog, ThreadLog};
+use light_base::{Memory, Tag, put_u16, put_u32};
+use machine::{End, Limits};
+use std::alloc::Global;
+
+/// The first four bytes of each log.
+const MAGIC: [u8; 4] = *b"LLG1";
+
+/// The one text of a log.
+#[tactic(auto, unfolding(crate::specs::Spelling::spelling))]
+pub fn write_log(alloc: Global, log: &RunLog) -> Result<Vec<u8>, Memory>
+    ensures { IfOk result (λ bytes. bytes.items ≡ spelling log.now) }
+{
+    let mut out = Vec::with_capacity(alloc, text_len(log))?;
+    put_head(&mut out, log)?;
+    put_headers(&mut out, log.threads())?;
+    put_tags(&mut out, log.finals())?;
+    put_all_entries(&mut out, log.threads())?;
+    Ok(out)
+}
+
+// How many bytes the text of a log has.
+fn text_len(log: &RunLog) -> usize {
+    51 + 17 * log.threads().len() + 4 * log.finals().len() + 14 * entry_count(log.threads())
+}
+
+// How many entries all threads have.
+fn entry_count(threads: &[ThreadLog]) -> usize
+    requires few { length threads.now ≤ 15 }
+    requires short { All (λ thread. length thread.entries ≤ 16384) threads.now }
+    ensures { result ≤ 16384 * length threads.now }
+{
+    let mut count = 0;
+    for thread in threads {
+        count += thread.entries().len();
+    }
+    count
+}
+
+// Appends what stands before the headers.
+fn put_head(out: &mut Vec<u8>, log: &RunLog) -> Result<(), Memory>
+    ensures { OnOk result (out.new.items ≡ out.old.items ++ head_bytes log.now) }
+{
+    out.extend_from_slice(&MAGIC)?;
+    out.push(log.threads().len() as u8)?;
+    put_u16(out, log.finals().len() as u16)?;
+    out.extend_from_slice(log.digest())?;
+    put_limits(out, log.limits())
+}
+
+#[tactic(auto, unfolding(crate::specs::Spelling::limits_bytes))]
+fn put_limits(out: &mut Vec<u8>, limits: &Limits) -> Result<(), Memory>
+    ensures { OnOk result (out.new.items ≡ out.old.items ++ limits_bytes (record { steps = limits.now.steps; instr = limits.now.instr; entries = limits.now.entries })) }
+{
+    put_u32(out, limits.steps())?;
+    put_u32(out, limits.instr())?;
+    put_u32(out, limits.entries())
+}
+
+fn put_headers(out: &mut Vec<u8>, threads: &[ThreadLog]) -> Result<(), Memory>
+    requires { All (λ thread. length thread.entries ≤ 16384) threads.now }
+    ensures { OnOk result (out.new.items ≡ out.old.items ++ flat_map header_bytes threads.now) }
+{
+    for thread in threads {
+        put_header(out, thread)?;
+    }
+    Ok(())
+}
+
+fn put_header(out: &mut Vec<u8>, thread: &ThreadLog) -> Result<(), Memory>
+    requires { length thread.now.entries ≤ 16384 }
+    ensures { OnOk result (out.new.items ≡ out.old.items ++ header_bytes thread.now) }
+{
+    out.push(code_of(thread.end()))?;
+    put_u32(out, address_of(thread.end()))?;
+    put_u32(out, thread.steps())?;
+    put_u32(out, thread.instr())?;
+    put_u32(out, thread.entries().len() as u32)
+}
+
+// The number of an end.
+fn code_of(end: End) -> u8
+    ensures { result ≡ code_of_end end }
+{
+    match end {
+        End::Halted => 0,
+        End::InstrSpent => 1,
+        End::BadAddress(_) => 2,
+        End::StepsSpent => 3,
+        End::EntriesFull => 4,
+        End::OutputFull => 5,
+    }
+}
+
+// The address that no word has; 0 at another end.
+fn address_of(end: End) -> u32
+    ensures { result ≡ address_of_end end }
+{
+    match end {
+        End::BadAddress(address) => address,
+        _ => 0,
+    }
+}
+
+fn put_tags(out: &mut Vec<u8>, tags: &[Tag]) -> Result<(), Memory>
+    ensures { OnOk result (out.new.items ≡ out.old.items ++ flat_map tag_bytes tags.now) }
+{
+    for tag in tags {
+        put_u32(out, tag.bits())?;
+    }
+    Ok(())
+}
+
+fn put_all_entries(out: &mut Vec<u8>, threads: &[ThreadLog]) -> Result<(), Memory>
+    ensures { OnOk result (out.new.items ≡ out.old.items ++ flat_map entries_bytes threads.now) }
+{
+    for thread in threads {
+        put_entries(out, thread.entries())?;
+    }
+    Ok(())
+}
+
+fn put_entries(out: &mut Vec<u8>, entries: &[Entry]) -> Result<(), Memory>
+    ensures { OnOk result (out.new.items ≡ out.old.items ++ flat_map entry_bytes entries.now) }
+{
+    for entry in entries {
+        put_entry(out, entry)?;
+    }
+    Ok(())
+}
+
+fn put_entry(out: &mut Vec<u8>, entry: &Entry) -> Result<(), Memory>
+    ensures { OnOk result (out.new.items ≡ out.old.items ++ entry_bytes entry.now) }
+{
+    put_u16(out, entry.word)?;
+    put_u32(out, entry.source.bits())?;
+    put_u32(out, entry.first)?;
+    put_u32(out, entry.last)
+}

@@ -1,0 +1,15 @@
+pub mod Local
+pub mod Rests
+pub mod Runs
+pub mod Turning
+pub mod Keeps
+pub mod Going
+pub mod Faults
+pub mod Rules
+pub mod ImageHead
+pub mod ImageSteps
+pub mod ImageNumbers
+pub mod ImageInstrs
+pub mod Keeping
+pub mod ImageLaws
+pub mod ImageExamples

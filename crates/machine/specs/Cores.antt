@@ -1,0 +1,216 @@
+-- One thread: its state, its local instructions, its ends, and what a memory step does to it.
+use Rattle.std.specs.Prelude.{◌≡◌, ℕ, zero, suc, ◌+◌, ◌-◌, ◌<◌, ◌≤◌, ◌^◌, ◌%◌, Bool, true, false, ◌&&◌, ◌==◌, nat_le, if◌then◌else◌, Option, None, Some, List, [], ◌∷◌, ◌++◌, length, slice_get, slice_index, slice_set, replicate}
+use Rattle.light_base.specs.declared.tag.Cell.{Cell}
+use Rattle.replay_model.specs.declared.Want.{Want}
+use Rattle.replay_model.specs.declared.End.{End}
+use Rattle.replay_model.specs.Steps.{has_ended}
+use Rattle.replay_model.specs.declared.Want.TheVariants as want
+use Rattle.replay_model.specs.declared.End.TheVariants as end
+use Rattle.machine.specs.declared.program.Instr.{Instr}
+use Rattle.machine.specs.declared.program.Op.{Op}
+use Rattle.machine.specs.Programs.{ProgramValue, LimitsValue, code_of}
+use Rattle.machine.specs.declared.program.Op.TheVariants as op
+
+-- what a thread is and has done: pending is the memory step or end that it has come to, and doing the instruction that wants it
+pub record State : Type 0 where
+  pub thread : ℕ
+  pub registers : List ℕ
+  pub place : ℕ
+  pub output : List ℕ
+  pub steps : ℕ
+  pub instr : ℕ
+  pub doing : Instr
+  pub pending : Option Want
+
+-- how a thread ended, and what it did
+pub record Report : Type 0 where
+  pub end : End
+  pub steps : ℕ
+  pub instr : ℕ
+  pub output : List ℕ
+
+-- the most values that a thread puts out
+abbrev pub most_outputs : ℕ
+most_outputs = 65536
+
+abbrev pub halt : Instr
+halt = record { op = op.Halt; a = 0; b = 0; c = 0; imm = 0 }
+
+-- the start of a thread
+abbrev pub first_state : ℕ → State
+first_state t = record { thread = t; registers = replicate 16 0; place = 0; output = []; steps = 0; instr = 0; doing = halt; pending = None }
+
+abbrev pub register : State → ℕ → ℕ
+register s r = slice_index s.registers r
+
+-- where a memory instruction goes
+abbrev pub address_of : State → Instr → ℕ
+address_of s i = (register s i.b + i.imm) % 2 ^ 32
+
+abbrev pub is_memory : Op → Bool
+is_memory op.Halt = false
+is_memory op.Const = false
+is_memory op.Addi = false
+is_memory op.Jeq = false
+is_memory op.Out = false
+is_memory op.Load = true
+is_memory op.Store = true
+
+abbrev pub is_reading : Op → Bool
+is_reading op.Halt = false
+is_reading op.Const = false
+is_reading op.Addi = false
+is_reading op.Jeq = false
+is_reading op.Out = false
+is_reading op.Load = true
+is_reading op.Store = false
+
+abbrev pub is_halt : Op → Bool
+is_halt op.Halt = true
+is_halt op.Const = false
+is_halt op.Addi = false
+is_halt op.Jeq = false
+is_halt op.Out = false
+is_halt op.Load = false
+is_halt op.Store = false
+
+abbrev pub is_out : Op → Bool
+is_out op.Halt = false
+is_out op.Const = false
+is_out op.Addi = false
+is_out op.Jeq = false
+is_out op.Out = true
+is_out op.Load = false
+is_out op.Store = false
+
+-- the end that comes before this instruction, if one does: the ends are looked at in this order; full says that the thread's log has as many entries as it may have
+abbrev pub end_before : ℕ → LimitsValue → Bool → State → Instr → Option End
+end_before words limits full s i =
+    if is_halt i.op then Some end.Halted
+    else if nat_le limits.instr s.instr then Some end.InstrSpent
+    else if is_memory i.op && nat_le words (address_of s i) then Some (end.BadAddress (address_of s i))
+    else if is_memory i.op && nat_le limits.steps s.steps then Some end.StepsSpent
+    else if is_reading i.op && full then Some end.EntriesFull
+    else if is_out i.op && nat_le most_outputs (length s.output) then Some end.OutputFull
+    else None
+
+-- the memory step that an instruction wants; a local one wants none
+abbrev pub step_wanted : Op → State → Instr → Option Want
+step_wanted op.Halt s i = None
+step_wanted op.Const s i = None
+step_wanted op.Addi s i = None
+step_wanted op.Jeq s i = None
+step_wanted op.Out s i = None
+step_wanted op.Load s i = Some (want.Load (address_of s i))
+step_wanted op.Store s i = Some (want.Store (address_of s i) (register s i.a))
+
+abbrev pub ended_or : Option End → Option Want → Option Want
+ended_or None wanted = wanted
+ended_or (Some e) wanted = Some (want.Ended e)
+
+-- what the thread comes to at this instruction: an end, a memory step, or nothing where the instruction is local; past its code it halts
+abbrev pub comes_to : ℕ → LimitsValue → Bool → State → Option Instr → Option Want
+comes_to words limits full s None = Some (want.Ended end.Halted)
+comes_to words limits full s (Some i) = ended_or (end_before words limits full s i) (step_wanted i.op s i)
+
+-- a register gets a value, and the next instruction follows
+abbrev pub with_register : State → ℕ → ℕ → State
+with_register s r value = record s { registers = slice_set s.registers r value; place = s.place + 1; instr = s.instr + 1 }
+
+-- what a local instruction does
+abbrev pub ran : Op → State → Instr → State
+ran op.Halt s i = s
+ran op.Const s i = with_register s i.a i.imm
+ran op.Addi s i = with_register s i.a ((register s i.b + i.imm) % 2 ^ 32)
+ran op.Jeq s i = record s { place = if register s i.a == register s i.b then i.imm else s.place + 1; instr = s.instr + 1 }
+ran op.Out s i = record s { output = s.output ++ register s i.a ∷ []; place = s.place + 1; instr = s.instr + 1 }
+ran op.Load s i = s
+ran op.Store s i = s
+
+abbrev pub instr_or_halt : Option Instr → Instr
+instr_or_halt None = halt
+instr_or_halt (Some i) = i
+
+-- the thread stands at this instruction, where it has come to this
+abbrev pub waiting : State → Option Instr → Want → State
+waiting s i wanted = record s { doing = instr_or_halt i; pending = Some wanted }
+
+-- what the thread has come to is pending, or the state follows that its local instruction leads to
+abbrev pub waiting_or : State → Option Instr → Option Want → State → State
+waiting_or s i (Some wanted) next = waiting s i wanted
+waiting_or s i None next = next
+
+-- local instructions are run until a memory step or an end is pending, at most so many of them
+unfoldable pub run_local : ℕ → List Instr → ℕ → LimitsValue → Bool → State → State
+run_local zero code words limits full s = s
+run_local (suc n) code words limits full s =
+    let i = slice_get code s.place in
+    waiting_or s i (comes_to words limits full s i) (run_local n code words limits full (ran (instr_or_halt i).op s (instr_or_halt i)))
+
+-- each local instruction counts, so no more of them come than the limit leaves
+unfoldable pub run_on : List Instr → ℕ → LimitsValue → Bool → State → State
+run_on code words limits full s = run_local ((limits.instr - s.instr) + 1) code words limits full s
+
+-- the state itself where something is pending, and else the next one
+abbrev pub if_none : Option Want → State → State → State
+if_none None s next = next
+if_none (Some wanted) s next = s
+
+-- the next memory step or end of the thread is pending
+unfoldable pub settled : ProgramValue → LimitsValue → Bool → State → State
+settled p limits full s = if_none s.pending s (run_on (code_of p s.thread) (length p.words) limits full s)
+
+-- the pending memory step was taken: its instruction is done
+abbrev pub step_done : State → State
+step_done s = record s { place = s.place + 1; steps = s.steps + 1; instr = s.instr + 1; pending = None }
+
+-- the state after the pending memory step, which found this cell, or none where it reads nothing
+abbrev pub took : State → Option Cell → State
+took s None = step_done s
+took s (Some cell) = step_done (record s { registers = slice_set s.registers s.doing.a cell.value })
+
+-- what is pending
+abbrev pub want_or : Want → Option Want → Want
+want_or w None = w
+want_or w (Some wanted) = wanted
+
+abbrev pub pending_want : State → Want
+pending_want s = want_or (want.Ended end.Halted) s.pending
+
+-- whether the step only writes
+abbrev pub is_store : Want → Bool
+is_store (want.Load word) = false
+is_store (want.Store word value) = true
+is_store (want.Swap word value) = false
+is_store (want.Cond word seen value) = false
+is_store (want.Ended e) = false
+
+abbrev pub end_of : Want → Option End
+end_of (want.Load word) = None
+end_of (want.Store word value) = None
+end_of (want.Swap word value) = None
+end_of (want.Cond word seen value) = None
+end_of (want.Ended e) = Some e
+
+abbrev pub end_or_halted : Option End → End
+end_or_halted None = end.Halted
+end_or_halted (Some e) = e
+
+-- what a thread that has ended reports
+abbrev pub report_of : State → Report
+report_of s = record { end = end_or_halted (end_of (pending_want s)); steps = s.steps; instr = s.instr; output = s.output }
+
+-- a pending memory step leaves room for itself in the counts and in the code
+abbrev pub HasRoom : Option Want → State → Type 0
+HasRoom None s = Unit {0}
+HasRoom (Some wanted) s = has_ended wanted ≡ false → (s.steps < 268435455) × (s.instr < 1073741824) × (s.place < 4096) × (s.doing.a < 16)
+
+-- what holds of every state that a thread comes to
+pub record IsState (s : State) : Type 0 where
+  pub thread : s.thread ≤ 14
+  pub registers : length s.registers ≡ 16
+  pub place : s.place ≤ 4096
+  pub output : length s.output ≤ most_outputs
+  pub steps : s.steps ≤ 268435455
+  pub instr : s.instr ≤ 1073741824
+  pub room : HasRoom s.pending s

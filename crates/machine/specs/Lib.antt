@@ -1,0 +1,8 @@
+pub mod Programs
+pub mod Faults
+pub mod Images
+pub mod ImageReading
+pub mod Cores
+pub mod Runs
+pub mod Laws
+pub mod Turns

@@ -1,0 +1,2 @@
+//! The text that tells of a run: what each thread reports, and the last values of the words.
+#![tactic(auto)]

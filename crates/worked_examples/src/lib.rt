@@ -1,0 +1,18 @@
+//! What the definitions say of small programs, computed.
+#![tactic(auto)]
+
+ghost use Rattle.worked_examples.specs.Computed.{SmallestHalts, OwnWriteIsRead, InitialValueIsRead, UpdateIsLost, NoStepsAreAllowed, MessageIsPassed, ReadsAreSilent, EntriesAreSpent, AddressesWrap};
+
+/// The transcripts of small programs, by the definitions alone.
+pub fn computed_transcripts()
+    ensures smallest { SmallestHalts }
+    ensures own_write { OwnWriteIsRead }
+    ensures initial_value { InitialValueIsRead }
+    ensures lost_update { UpdateIsLost }
+    ensures no_steps { NoStepsAreAllowed }
+    ensures message { MessageIsPassed }
+    ensures reads { ReadsAreSilent }
+    ensures one_entry { EntriesAreSpent }
+    ensures addresses { AddressesWrap }
+{
+}
