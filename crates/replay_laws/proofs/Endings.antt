@@ -8,16 +8,6 @@ use Rattle.replay_model.specs.Histories.{World, steps_of, wanted, move}
 use Rattle.replay_model.specs.SkipPlay.{moves, finish}
 use Rattle.replay_model.proofs.Moves.{move_ended, move_here, move_there, move_count}
 
--- a thread that has ended stays so, whoever moves
-pub move_stays : (threads : Threads) (keep : Event → Bool) (t u : ℕ) (world : World) → has_ended (wanted threads u world) ≡ true → has_ended (wanted threads u (move threads keep t world)) ≡ true
-move_stays threads keep t u world h = go (cases_eq u t)
-  where
-    go : (u ≡ t) ⊎ (u ≡ t → ⊥) → has_ended (wanted threads u (move threads keep t world)) ≡ true
-    go (inl e) =
-        let s : has_ended (wanted threads t world) ≡ true = subst (λ (x : ℕ). has_ended (wanted threads x world) ≡ true) e h in
-        ap (λ (x : World). has_ended (wanted threads u x)) (move_ended threads keep t world s) ∙ h
-    go (inr n) = ap (λ (x : List Step). has_ended (threads u x)) (move_there threads keep t u world n) ∙ h
-
 -- a thread that has ended moves no more
 pub moves_ended : (threads : Threads) (keep : Event → Bool) (n t : ℕ) (world : World) → has_ended (wanted threads t world) ≡ true → moves threads keep n t world ≡ world
 unfolding moves
