@@ -3,3 +3,4 @@ pub mod Sightings
 pub mod Playing
 pub mod Stepping
 pub mod Histories
+pub mod HistoryLogs

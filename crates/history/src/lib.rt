@@ -6,7 +6,7 @@ mod laws;
 mod plain;
 mod seat;
 
-pub use laws::history_law;
+pub use laws::{history_law, history_log_law};
 pub use plain::{Plain, Stepped};
 
 #[cfg(test)]
