@@ -7,10 +7,10 @@ use Rattle.std.proofs.lemmas.List.{drop-drop, take_rest}
 use Rattle.light_base.specs.Numbers.{big_endian_at}
 use Rattle.light_base.proofs.Numbers.{big_endian_at-within, big_endian_at-there}
 use Rattle.machine.specs.Programs.{Instr}
-use Rattle.machine.specs.Faults.{ImageKind, ImageFault, whole_fault, are_counts}
+use Rattle.machine.specs.Faults.{is_short_length, ImageKind, ImageFault, whole_fault, are_counts}
 use Rattle.machine.specs.declared.image_fault.ImageKind.TheVariants as kind
 use Rattle.machine.specs.Images.{magic}
-use Rattle.machine.specs.ImageReading.{numbers_at, threads_in, words_in, lengths_in, words_place, image_len, is_short_length, counts_fault, lengths_fault, codes_place, codes_at, after, body_of, image_read}
+use Rattle.machine.specs.ImageReading.{numbers_at, threads_in, words_in, lengths_in, words_place, image_len, counts_fault, lengths_fault, codes_place, codes_at, after, body_of, image_read}
 
 -- ---- numbers in a row
 
@@ -112,7 +112,7 @@ after_err : {A B : Type 0} (f : Option ImageKind) (x : A) (r : Result B ImageFau
 after_err None x r e h = absurd cc
 after_err (Some k) x r e h = cc
 
-after_ok : {A : Type 0} (f : Option ImageKind) (r : Result A ImageFault) (x : A) → after f r ≡ Ok x → (f ≡ None) × (r ≡ Ok x)
+pub after_ok : {A : Type 0} (f : Option ImageKind) (r : Result A ImageFault) (x : A) → after f r ≡ Ok x → (f ≡ None) × (r ≡ Ok x)
 after_ok None r x e = (refl, e)
 after_ok (Some k) r x e = absurd cc
 

@@ -11,14 +11,14 @@ use Rattle.std.proofs.lemmas.List.Folds.{list_all-map}
 use Rattle.std.proofs.lemmas.Nat.{from_be_bytes-to_be_bytes_2}
 use Rattle.light_base.specs.Numbers.{IsBytes}
 use Rattle.machine.specs.Programs.{Instr, ProgramValue, IsProgram}
-use Rattle.machine.specs.Faults.{ImageFault, ImageKind, whole_fault, are_counts, is_count, is_short_code}
+use Rattle.machine.specs.Faults.{is_short_length, ImageFault, ImageKind, whole_fault, are_counts, is_count, is_short_code}
 use Rattle.machine.specs.declared.image_fault.ImageKind.TheVariants as kind
 use Rattle.machine.specs.Images.{magic, code_image, length_image, counts_image, image_of, HasNumbers, IsImage}
-use Rattle.machine.specs.ImageReading.{Gives, out_of_memory, numbers_at, codes_at, threads_in, words_in, lengths_in, words_place, codes_place, image_len, is_short_length, counts_fault, lengths_fault, after, body_of, image_read}
+use Rattle.machine.specs.ImageReading.{Gives, out_of_memory, numbers_at, codes_at, threads_in, words_in, lengths_in, words_place, codes_place, image_len, counts_fault, lengths_fault, after, body_of, image_read}
 use Rattle.machine.proofs.Rules.{count_holds, is_count_from, codes_are, codes_rules, codes_short}
 use Rattle.machine.proofs.ImageNumbers.{IsBytes-drop, wide16, wide32, front_number, TakesNumbers, numbers_take, numbers_again}
 use Rattle.machine.proofs.ImageInstrs.{bind_ok, ok_is, FitsImm, TakesCodes, codes_take, codes_again, length-codes_image}
-use Rattle.machine.proofs.ImageHead.{HasLengths, HasCodes, IsHead, counts_none, lengths_in_are, image_is}
+use Rattle.machine.proofs.ImageHead.{after_ok, HasLengths, HasCodes, IsHead, counts_none, lengths_in_are, image_is}
 
 -- ---- lengths
 
@@ -42,10 +42,6 @@ short_lengths_fit [] short = tt
 short_lengths_fit (code ∷ codes) short = (omega (arith, short.0), short_lengths_fit codes short.1)
 
 -- ---- what is read is spelled so
-
-after_ok : {A : Type 0} (f : Option ImageKind) (r : Result A ImageFault) (x : A) → after f r ≡ Ok x → (f ≡ None) × (r ≡ Ok x)
-after_ok None r x e = (refl, e)
-after_ok (Some k) r x e = absurd cc
 
 guarded : (b : Bool) (k : ImageKind) (more : Option ImageKind) → cond b (Some k) more ≡ None → (b ≡ false) × (more ≡ None)
 guarded true k more e = absurd cc

@@ -1,12 +1,13 @@
 -- Reading an image: the program that the bytes spell, or the first fault in the order of the tests.
-use Rattle.std.specs.Prelude.{◌≡◌, ◌≢◌, ℕ, zero, suc, ◌+◌, ◌*◌, Bool, not, nat_lt, nat_eq, if◌then◌else◌, List, [], ◌∷◌, length, take, drop, sum, slice_index, slice_range, Option, None, Some, Result, Ok, Err}
+use Rattle.std.specs.Prelude.{◌≡◌, ◌≢◌, ℕ, zero, suc, ◌+◌, ◌*◌, not, nat_lt, nat_eq, if◌then◌else◌, List, [], ◌∷◌, length, take, drop, sum, slice_index, slice_range, Option, None, Some, Result, Ok, Err}
 use Rattle.std.specs.List.{list_all, starts_with}
 use Rattle.std.specs.Int.{Width, w16, w32, byte_len, from_be_bytes}
 use Rattle.machine.specs.Programs.{Instr, Op, ProgramValue, op_of}
-use Rattle.machine.specs.Faults.{ImageFault, ImageKind, whole_fault, instr_fault, are_counts}
+use Rattle.machine.specs.Faults.{ImageFault, ImageKind, whole_fault, instr_fault, are_counts, is_short_length}
 use Rattle.machine.specs.declared.image_fault.ImageKind.TheVariants as kind
 use Rattle.machine.specs.Images.{magic}
 
+-- the fault that tells of a request for memory that was refused
 abbrev pub out_of_memory : ImageFault
 out_of_memory = whole_fault kind.Memory
 
@@ -15,6 +16,7 @@ abbrev pub Gives : {X Y : Type 0} → (X → Y) → Result X ImageFault → Resu
 Gives view (Ok x) read = read ≡ Ok (view x)
 Gives view (Err e) read = e ≢ out_of_memory → read ≡ Err e
 
+-- one step after the other, up to the first fault
 infixl 10 ◌>>=◌
 abbrev pub ◌>>=◌ : {A B : Type 0} → Result A ImageFault → (A → Result B ImageFault) → Result B ImageFault
 (Ok x) >>= f = f x
@@ -27,12 +29,15 @@ numbers_at w (suc n) bytes = from_be_bytes w (take (byte_len w) bytes) ∷ numbe
 
 -- ---- the head: the counts and the lengths of the codes
 
+-- the number of threads
 abbrev pub threads_in : List ℕ → ℕ
 threads_in bytes = slice_index bytes 4
 
+-- the number of words
 unfoldable pub words_in : List ℕ → ℕ
 words_in bytes = from_be_bytes w16 (slice_range bytes 5 7)
 
+-- the length of each thread's code
 unfoldable pub lengths_in : List ℕ → List ℕ
 lengths_in bytes = numbers_at w16 (threads_in bytes) (drop 7 bytes)
 
@@ -46,9 +51,7 @@ codes_place bytes = words_place bytes + 4 * words_in bytes
 abbrev pub image_len : List ℕ → ℕ
 image_len bytes = codes_place bytes + 8 * sum (lengths_in bytes)
 
-abbrev pub is_short_length : ℕ → Bool
-is_short_length len = not (nat_lt 4096 len)
-
+-- what is wrong with the counts: too few bytes for them, another beginning, or a count out of range
 unfoldable pub counts_fault : List ℕ → Option ImageKind
 counts_fault bytes =
     if nat_lt (length bytes) 7 then Some kind.Short
@@ -56,6 +59,7 @@ counts_fault bytes =
     else if not (are_counts (threads_in bytes) (words_in bytes)) then Some kind.Counts
     else None
 
+-- what is wrong with the lengths: too few bytes for them, a code that is too long, or too few bytes for all that they announce
 unfoldable pub lengths_fault : List ℕ → Option ImageKind
 lengths_fault bytes =
     if nat_lt (length bytes) (words_place bytes) then Some kind.Short
@@ -70,6 +74,7 @@ abbrev pub kept : Option ImageKind → Instr → Result Instr ImageKind
 kept None i = Ok i
 kept (Some k) i = Err k
 
+-- the instruction of an operation and of the bytes behind its code
 abbrev pub with_op : ℕ → List ℕ → Option Op → Result Instr ImageKind
 with_op len bytes None = Err kind.Opcode
 with_op len bytes (Some o) =
@@ -107,6 +112,7 @@ abbrev pub after : {A : Type 0} → Option ImageKind → Result A ImageFault →
 after None r = r
 after (Some k) r = Err (whole_fault k)
 
+-- the words and the codes, with nothing behind them
 unfoldable pub body_of : List ℕ → Result ProgramValue ImageFault
 body_of bytes = do
   threads ← codes_at 0 (lengths_in bytes) (drop (codes_place bytes) bytes)

@@ -20,6 +20,7 @@ counts_image p = length p.threads ∷ to_be_bytes w16 (length p.words)
 abbrev pub length_image : List Instr → List ℕ
 length_image code = to_be_bytes w16 (length code)
 
+-- the instructions of a thread
 abbrev pub code_image : List Instr → List ℕ
 code_image code = flat_map instr_image code
 

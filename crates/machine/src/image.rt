@@ -5,7 +5,8 @@ ghost use Rattle.std.specs.Int.{w16, w32};
 ghost use Rattle.machine.specs.Programs.{ProgramValue, IsProgram, code_lists};
 ghost use Rattle.machine.specs.declared.image_fault.ImageKind.TheVariants.{Memory};
 ghost use Rattle.machine.specs.Images.{HasNumbers, IsImage, image_of};
-ghost use Rattle.machine.specs.ImageReading.{Gives, out_of_memory, after, numbers_at, threads_in, words_in, counts_fault, is_short_length, instr_at, code_at, codes_at, image_read};
+ghost use Rattle.machine.specs.ImageReading.{Gives, out_of_memory, after, numbers_at, threads_in, words_in, counts_fault, instr_at, code_at, codes_at, image_read};
+ghost use Rattle.machine.specs.Faults.{is_short_length};
 
 use crate::image_fault::{ImageFault, ImageKind};
 use crate::program::{Instr, Op, Program, are_counts};

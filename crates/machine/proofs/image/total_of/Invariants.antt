@@ -1,6 +1,6 @@
 use Rattle.std.proofs.Common.{◌≡◌, ◌*◌, ◌≤◌, true, sum, take}
 use Rattle.std.specs.List.{list_all}
-use Rattle.machine.specs.ImageReading.{is_short_length}
+use Rattle.machine.specs.Faults.{is_short_length}
 use Rattle.machine.proofs.image.total_of.Given as goal
 
 abbrev pub invariant-loop-len : goal.invariant-loop-len
