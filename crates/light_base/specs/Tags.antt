@@ -1,5 +1,5 @@
 -- Tags as numbers. A tag is seen as the writer of a word: a memory step of a thread, or nobody for the initial contents.
-use Rattle.std.specs.Prelude.{◌≡◌, ℕ, zero, suc, ◌+◌, ◌-◌, ◌*◌, ◌/◌, ◌%◌, ◌^◌, ◌<◌, ◌≤◌, ◌⊎◌, Option, Some, None, refl}
+use Rattle.std.specs.Prelude.{◌≡◌, ℕ, zero, suc, ◌+◌, ◌-◌, ◌*◌, ◌/◌, ◌%◌, ◌^◌, ◌<◌, ◌≤◌, ◌⊎◌, Option, Some, None, IfSome, refl}
 use Rattle.std.proofs.Common.{arith, inl, inr}
 use Rattle.light_base.specs.declared.tag.Event.{Event}
 
@@ -23,6 +23,11 @@ writer_of (suc n) = Some record { thread = suc n / 2 ^ 28 - 1; step = suc n % 2 
 abbrev pub IsTag : ℕ → Type 0
 IsTag bits = (bits ≡ 0) ⊎ ((2 ^ 28 ≤ bits) × (0 < bits % 2 ^ 28))
 
+-- nobody, or an event that has a tag
+abbrev pub IsWriter : Option Event → Type 0
+IsWriter writer = IfSome writer HasTag
+
+-- a tag's number names a writer with that number
 pub bits_of-writer_of : (n : ℕ) → IsTag n → bits_of (writer_of n) ≡ n
 bits_of-writer_of zero h = refl
 bits_of-writer_of (suc n) (inl e) = omega (arith, e)
