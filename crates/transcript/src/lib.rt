@@ -1,2 +1,4 @@
 //! The text that tells of a run: what each thread reports, and the last values of the words.
 #![tactic(auto)]
+
+mod lines;
