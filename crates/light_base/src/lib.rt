@@ -4,10 +4,18 @@
 
 mod big_endian;
 mod decimal;
+mod mem_sink;
+mod mem_store;
 mod memory;
+mod sink;
+mod store;
 mod tag;
 
 pub use big_endian::{u16_at, u32_at};
 pub use decimal::put_decimal;
+pub use mem_sink::MemSink;
+pub use mem_store::MemStore;
 pub use memory::Memory;
+pub use sink::{Sink, SinkFault};
+pub use store::{Store, StoreFault};
 pub use tag::{Cell, Event, Tag};
