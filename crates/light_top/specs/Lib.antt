@@ -1,0 +1,5 @@
+pub mod Words
+pub mod Said
+pub mod Statuses
+pub mod Loading
+pub mod Printing
