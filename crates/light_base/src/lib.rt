@@ -19,3 +19,6 @@ pub use memory::Memory;
 pub use sink::{Sink, SinkFault};
 pub use store::{Store, StoreFault};
 pub use tag::{Cell, Event, Tag};
+
+#[cfg(test)]
+mod tests;

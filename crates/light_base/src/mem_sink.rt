@@ -14,7 +14,7 @@ use std::marker::Model;
 /// Its puts are numbered from 1. The numbers stop at 2^64 - 1, which all later puts have. A put whose number is among
 /// those that fail counts a fault and answers `Failed`. Each other put takes the first bytes of the piece, as many as
 /// one put may, or all where there are fewer, and counts no fault.
-#[derive(Drop)]
+#[derive(Debug, Drop)]
 pub struct MemSink {
     taken: Vec<u8>,
     piece: usize,

@@ -20,7 +20,7 @@ use std::marker::Model;
 /// have. A call counts a fault and answers `Failed` exactly where its number is among those that fail, or it loads a
 /// name that isn't there. A failing save leaves the first half of the bytes, rounded down, under the name; where there
 /// is no memory for that, it answers `Memory`, counts no fault, and leaves the files as they were.
-#[derive(Drop)]
+#[derive(Debug, Drop)]
 pub struct MemStore {
     alloc: Global,
     files: BTreeMap<String, Vec<u8>>,
