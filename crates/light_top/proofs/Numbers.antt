@@ -62,7 +62,7 @@ is_plain-true (c ∷ []) p = differs c 43 p.no_plus
 is_plain-true (c ∷ d ∷ cs) p =
     both_true _ _ (differs c 43 p.no_plus) (differs c 48 (λ is. let h = p.zero_alone is in omega arith))
 
-plain_decimal : (n : ℕ) → n < 2 ^ 32 → Plain (decimal n)
+plain_decimal : (n : ℕ) → n < 2 ^ 64 → Plain (decimal n)
 plain_decimal zero fits =
     subst Plain (sym (decimal_digit 0 (lit< tt))) (record { nonempty = lit< tt; no_plus = λ e. omega arith; zero_alone = λ _. refl })
 plain_decimal (suc n) fits =
@@ -78,7 +78,7 @@ pub parsed : {E : Type 0} (word : List ℕ) (r : Result ℕ E) (n : ℕ) → is_
 parsed word r n e parses is =
     let p = plain_word word e in
     let h = subst (λ x. OkIff x (AllDigits 10 word × (0 < length word) × (digits_value 10 word < 2 ^ 32)) (digits_value 10 word)) is (parse_plain own 32 word r parses p.no_plus) in
-    (sym (decimal-digits_value own word h.0.0 h.0.1 p.zero_alone h.0.2) ∙ ap decimal (sym h.1), omega (arith, h.1, h.0.2))
+    (sym (decimal-digits_value own word h.0.0 h.0.1 p.zero_alone (omega (arith, h.0.2))) ∙ ap decimal (sym h.1), omega (arith, h.1, h.0.2))
 
 pub not_parsed : {E : Type 0} (most : ℕ) (word : List ℕ) (r : Result ℕ E) (error : E) → most < 2 ^ 32 → is_plain word ≡ true → ParsesUnsigned 32 10 word r → r ≡ Err error → number_of most word ≡ None
 not_parsed most word r error fits e parses is_err =
@@ -92,4 +92,4 @@ not_parsed most word r error fits e parses is_err =
 -- the text of a number above most
 pub above : (most : ℕ) (word : List ℕ) (n : ℕ) → word ≡ decimal n → n < 2 ^ 32 → most < n → number_of most word ≡ None
 above most word n is fits more = number_of-none most word (λ m le is_m.
-    let same : n ≡ m = decimal_injective n m fits (omega arith) (sym is ∙ is_m) in omega arith)
+    let same : n ≡ m = decimal_injective n m (omega arith) (omega arith) (sym is ∙ is_m) in omega arith)

@@ -1,7 +1,7 @@
 -- Statuses: their numbers and their lines.
 use Rattle.std.specs.Prelude.{ℕ, List, [], ◌∷◌, ◌++◌, codes, Result, Ok, Err}
 use Rattle.std.specs.Fmt.{decimal}
-use Rattle.machine.specs.Faults.{ImageFault, number_of_kind}
+use Rattle.machine.specs.Faults.{number_of_kind}
 use Rattle.light_top.specs.declared.status.Status.{Status}
 use Rattle.light_top.specs.declared.status.Status.TheVariants as status
 
@@ -16,9 +16,9 @@ code_of status.SinkFault = 14
 code_of status.Memory = 70
 
 -- an image was refused: kind K thread T at A
-abbrev pub fault_line : ImageFault → List ℕ
-fault_line fault =
-    codes "light: image refused kind " ++ decimal (number_of_kind fault.kind) ++ codes " thread " ++ decimal fault.thread ++ codes " at " ++ decimal fault.at ++ 10 ∷ []
+abbrev pub refusal_line : ℕ → ℕ → ℕ → List ℕ
+refusal_line kind thread at =
+    codes "light: image refused" ++ (codes " kind " ++ decimal kind) ++ (codes " thread " ++ decimal thread) ++ (codes " at " ++ decimal at) ++ 10 ∷ []
 
 -- what is told of a status
 abbrev pub status_line : Status → List ℕ
@@ -26,7 +26,7 @@ status_line status.Ok = []
 status_line status.Usage = codes "light: usage" ++ 10 ∷ []
 status_line status.StoreFault = codes "light: store fault" ++ 10 ∷ []
 status_line (status.TooLong taken) = codes "light: too long" ++ 10 ∷ []
-status_line (status.ImageRefused fault) = fault_line fault
+status_line (status.ImageRefused fault) = refusal_line (number_of_kind fault.kind) fault.thread fault.at
 status_line status.SinkFault = codes "light: output fault" ++ 10 ∷ []
 status_line status.Memory = codes "light: out of memory" ++ 10 ∷ []
 

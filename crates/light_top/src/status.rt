@@ -1,6 +1,6 @@
 // How a command ends, as a number and as a line of text.
-ghost use Rattle.std.specs.Prelude.{◌≡◌, IfOk, OnOk, ◌++◌};
-ghost use Rattle.light_top.specs.Statuses.{code_of, status_line, fault_line};
+ghost use Rattle.std.specs.Prelude.{◌≡◌, IfOk, OnOk, ◌++◌, decimal};
+ghost use Rattle.light_top.specs.Statuses.{code_of, status_line, refusal_line};
 
 use light_base::{Memory, put_decimal};
 use machine::ImageFault;
@@ -41,15 +41,21 @@ impl Status {
     }
 }
 
-fn put_fault(text: &mut Vec<u8>, fault: ImageFault) -> Result<(), Memory>
-    ensures { OnOk result (text.new.items ≡ text.old.items ++ fault_line fault) }
+// Appends a name and its number.
+fn put_field(text: &mut Vec<u8>, name: &[u8], n: u64) -> Result<(), Memory>
+    ensures { OnOk result (text.new.items ≡ text.old.items ++ (name.now ++ decimal n)) }
 {
-    text.extend_from_slice(b"light: image refused kind ")?;
-    put_decimal(text, u64::from(fault.kind.code()))?;
-    text.extend_from_slice(b" thread ")?;
-    put_decimal(text, u64::from(fault.thread))?;
-    text.extend_from_slice(b" at ")?;
-    put_decimal(text, u64::from(fault.at))?;
+    text.extend_from_slice(name)?;
+    put_decimal(text, n)
+}
+
+fn put_refusal(text: &mut Vec<u8>, kind: u64, thread: u64, at: u64) -> Result<(), Memory>
+    ensures { OnOk result (text.new.items ≡ text.old.items ++ refusal_line kind thread at) }
+{
+    text.extend_from_slice(b"light: image refused")?;
+    put_field(text, b" kind ", kind)?;
+    put_field(text, b" thread ", thread)?;
+    put_field(text, b" at ", at)?;
     text.push(b'\n')?;
     Ok(())
 }
@@ -64,7 +70,10 @@ pub fn status_text(alloc: Global, status: &Status) -> Result<Vec<u8>, Memory>
         Status::Usage => text.extend_from_slice(b"light: usage\n")?,
         Status::StoreFault => text.extend_from_slice(b"light: store fault\n")?,
         Status::TooLong { .. } => text.extend_from_slice(b"light: too long\n")?,
-        Status::ImageRefused(fault) => put_fault(&mut text, *fault)?,
+        Status::ImageRefused(fault) => {
+            let kind = u64::from(fault.kind.code());
+            put_refusal(&mut text, kind, u64::from(fault.thread), u64::from(fault.at))?
+        }
         Status::SinkFault => text.extend_from_slice(b"light: output fault\n")?,
         Status::Memory => text.extend_from_slice(b"light: out of memory\n")?,
     }
