@@ -3,3 +3,7 @@ pub mod Said
 pub mod Statuses
 pub mod Loading
 pub mod Printing
+pub mod Reading
+pub mod Playing
+pub mod Commands
+pub mod Ends

@@ -3,7 +3,11 @@
 
 mod load;
 mod print;
+mod read;
+mod run;
 mod status;
+mod top;
 mod words;
 
 pub use status::{Status, status_text};
+pub use top::light;

@@ -1,5 +1,5 @@
 // A text is put into a sink piece by piece.
-ghost use Rattle.std.specs.Prelude.{◌≡◌, ◌≤◌, OnOk, IfErr};
+ghost use Rattle.std.specs.Prelude.{◌≡◌, ◌≤◌, is_some, OnOk, IfErr};
 ghost use Rattle.light_base.specs.Taken.{Appended};
 ghost use Rattle.light_top.specs.Printing.{PrintFails};
 
@@ -10,6 +10,8 @@ use light_base::{Sink, SinkFault};
 pub fn print<K: Sink>(out: &mut K, text: &[u8]) -> Result<(), Status>
     ensures ok { OnOk result (Appended (K.taken out.old) (K.taken out.new) text.now) }
     ensures err { IfErr result (PrintFails (K.taken out.old) (K.taken out.new) (K.faults out.old) (K.faults out.new) text.now) }
+
+    ensures tells { is_some (K.taken out.new) ≡ is_some (K.taken out.old) }
     ensures faults { K.faults out.old ≤ K.faults out.new }
 {
     let mut rest = text;

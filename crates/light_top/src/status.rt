@@ -41,6 +41,16 @@ impl Status {
     }
 }
 
+impl From<Memory> for Status {
+    ghost use Rattle.light_top.specs.declared.status.Status.TheVariants.{Memory};
+
+    ghost from_gives = { λ _ status. status ≡ Memory };
+
+    fn from(_: Memory) -> Status {
+        Status::Memory
+    }
+}
+
 // Appends a name and its number.
 fn put_field(text: &mut Vec<u8>, name: &[u8], n: u64) -> Result<(), Memory>
     ensures { OnOk result (text.new.items ≡ text.old.items ++ (name.now ++ decimal n)) }
