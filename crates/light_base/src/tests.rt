@@ -90,3 +90,17 @@ fn pieces_in_memory(rt: HostRuntime) -> Result<(), Fail> {
     assert_eq!(rt; sink.taken(), b"thread 0".as_slice());
     Ok(())
 }
+
+// What may move between threads and be shared by them.
+fn crosses<T: Send + Sync + Copy>(value: T) -> T {
+    value
+}
+
+#[test]
+fn what_crosses_threads() {
+    crosses(Memory);
+    crosses(Event { thread: 0, step: 1 });
+    crosses(Tag::INITIAL);
+    crosses(StoreFault::Failed);
+    crosses(SinkFault::Failed);
+}
