@@ -14,7 +14,7 @@ const LAST_THREAD: u8 = 14;
 /// Memory step number `step` of the thread with number `thread`. Threads are numbered from 0, and steps from 1.
 ///
 /// An event has a tag where its thread is at most 14 and its step is from 1 to 2^28 - 1.
-#[derive(Clone, Copy, Debug, PartialEq, Eq)]
+#[derive(Clone, Copy, Debug, PartialEq, Eq, Hash)]
 pub struct Event {
     pub thread: u8,
     pub step: u32,

@@ -135,22 +135,29 @@ instr_or_halt (Some i) = i
 abbrev pub waiting : State → Option Instr → Want → State
 waiting s i wanted = record s { doing = instr_or_halt i; pending = Some wanted }
 
+-- what the thread has come to is pending, or the state follows that its local instruction leads to
+abbrev pub waiting_or : State → Option Instr → Option Want → State → State
+waiting_or s i (Some wanted) next = waiting s i wanted
+waiting_or s i None next = next
+
 -- local instructions are run until a memory step or an end is pending, at most so many of them
 unfoldable pub run_local : ℕ → List Instr → ℕ → LimitsValue → Bool → State → State
 run_local zero code words limits full s = s
 run_local (suc n) code words limits full s =
-    elim (comes_to words limits full s (slice_get code s.place)) as (λ _. State) [
-      | Some wanted ↦ waiting s (slice_get code s.place) wanted
-      | None ↦ run_local n code words limits full (ran (instr_or_halt (slice_get code s.place)).op s (instr_or_halt (slice_get code s.place)))
-    ]
+    let i = slice_get code s.place in
+    waiting_or s i (comes_to words limits full s i) (run_local n code words limits full (ran (instr_or_halt i).op s (instr_or_halt i)))
 
--- the next memory step or end of the thread is pending; each local instruction counts, so no more of them come than the limit leaves
+-- each local instruction counts, so no more of them come than the limit leaves
+unfoldable pub run_on : List Instr → ℕ → LimitsValue → Bool → State → State
+run_on code words limits full s = run_local ((limits.instr - s.instr) + 1) code words limits full s
+
+abbrev pub if_none : Option Want → State → State → State
+if_none None s next = next
+if_none (Some wanted) s next = s
+
+-- the next memory step or end of the thread is pending
 unfoldable pub settled : ProgramValue → LimitsValue → Bool → State → State
-settled p limits full s =
-    elim s.pending as (λ _. State) [
-      | Some wanted ↦ s
-      | None ↦ run_local ((limits.instr - s.instr) + 1) (code_of p s.thread) (length p.words) limits full s
-    ]
+settled p limits full s = if_none s.pending s (run_on (code_of p s.thread) (length p.words) limits full s)
 
 -- the pending memory step was taken: its instruction is done
 abbrev pub step_done : State → State
@@ -168,6 +175,14 @@ want_or w (Some wanted) = wanted
 
 abbrev pub pending_want : State → Want
 pending_want s = want_or (want.Ended end.Halted) s.pending
+
+-- whether the step only writes
+abbrev pub is_store : Want → Bool
+is_store (want.Load word) = false
+is_store (want.Store word value) = true
+is_store (want.Swap word value) = false
+is_store (want.Cond word seen value) = false
+is_store (want.Ended e) = false
 
 abbrev pub end_of : Want → Option End
 end_of (want.Load word) = None

@@ -2,3 +2,5 @@ pub mod Programs
 pub mod Faults
 pub mod Cores
 pub mod Runs
+pub mod Laws
+pub mod Turns

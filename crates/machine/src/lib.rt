@@ -1,11 +1,13 @@
 //! The word machine: instructions, programs, their images, and a thread's core.
 #![tactic(auto)]
 
-mod core;
+mod cores;
 mod image_fault;
+mod laws;
 mod program;
 
-pub use crate::core::{Core, RunReport};
+pub use crate::cores::{Core, RunReport};
 pub use crate::image_fault::{ImageFault, ImageKind};
+pub use crate::laws::machine_law;
 pub use crate::program::{Instr, Limits, Op, Program};
 pub use replay_model::{Access, End, Want};

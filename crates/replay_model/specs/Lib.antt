@@ -3,3 +3,12 @@ pub mod Threads
 pub mod Histories
 pub mod ThreadLogs
 pub mod WordSteps
+pub mod Logs
+pub mod RunLogs
+pub mod WellFormed
+pub mod Events
+pub mod Orders
+pub mod Fitting
+pub mod SkipPlay
+pub mod MoreReads
+pub mod WholeHistories

@@ -1,0 +1,4 @@
+pub mod Sightings
+pub mod Seats
+pub mod Playing
+pub mod Turns

@@ -1,0 +1,102 @@
+-- The state of a plain machine, after a thread ran and after it took a step.
+use Rattle.std.proofs.Common.{◌≡◌, ℕ, ◌+◌, ◌<◌, ◌≤◌, Bool, true, false, List, [], ◌∷◌, ◌++◌, length, refl, sym, ◌∙◌, ap, subst, arith, inl, inr, ◌⊎◌}
+use Rattle.std.specs.Prelude.{Option, Some, None, slice_index_or, slice_set}
+use Rattle.std.proofs.lemmas.List.{length-set, get_or-set_same, get_or-set_other, length-map, length-replicate}
+use Rattle.std.proofs.lemmas.Bool.{cases_eq, cases_lt}
+use Rattle.replay_model.specs.declared.Access.{Access}
+use Rattle.replay_model.specs.declared.Want.{Want}
+use Rattle.replay_model.specs.Steps.{Event, Cell, Step, word_of, wrote, has_ended, found_in, put}
+use Rattle.replay_model.specs.Histories.{World, steps_of, step_in, play, move, keep_all}
+use Rattle.replay_model.proofs.Moves.{move_shape, set_here, set_there, each_thread, opening_steps}
+use Rattle.replay_model.proofs.Plays.{play-push, play_count, play_memory, legal-push}
+use Rattle.machine.specs.Programs.{ProgramValue, LimitsValue, IsProgram, AreLimits}
+use Rattle.machine.specs.Cores.{State, settled}
+use Rattle.machine.specs.Runs.{state_after, threads_of, start_of}
+use Rattle.machine.proofs.Runs.{stays_within, ends_within, keeps_thread}
+use Rattle.history.specs.declared.seat.Seat.{Seat}
+use Rattle.history.specs.Played.{Played, threads_in, world_of, thread_steps, wanted_by, next_step, next_access, after_step}
+use Rattle.history.specs.Playing.{IsSeat, IsPlaying, Takes, Keeps}
+use Rattle.history.proofs.Seats.{run_core, run_core-settled, ran-wants, ran-seat, taken-seat, kept-seat}
+
+-- a play keeps the number of threads and of words
+pub threads_count : (played : Played) → length (world_of played).threads ≡ length played.program.threads
+threads_count played = play_count (threads_in played) played.taken (start_of played.program) ∙ length-replicate {A = List Step} (length played.program.threads) []
+
+pub words_count : (played : Played) → length (world_of played).memory ≡ length played.program.words
+words_count played = play_memory (threads_in played) played.taken (start_of played.program) ∙ length-map played.program.words _
+
+-- one thread's part is replaced
+pub each_seat : (played : Played) (steps : ℕ → List Step) (seats : List Seat) (t : ℕ) (new : Seat) → t < length seats →
+    IsSeat played.program played.limits t (steps t) new →
+    ((u : ℕ) (seat : Seat) → (u ≡ t → ⊥) → u < length seats → IsSeat played.program played.limits u (steps u) (slice_index_or seats u seat)) →
+    (u : ℕ) (seat : Seat) → u < length (slice_set seats t new) → IsSeat played.program played.limits u (steps u) (slice_index_or (slice_set seats t new) u seat)
+each_seat played steps seats t new l here there u seat ul = go (cases_eq u t)
+  where
+    in_range : u < length seats
+    in_range = let k = length-set seats t new in omega (arith, k, ul)
+
+    go : (u ≡ t) ⊎ (u ≡ t → ⊥) → IsSeat played.program played.limits u (steps u) (slice_index_or (slice_set seats t new) u seat)
+    go (inl e) =
+        let P : ℕ → Type 0 = λ v. IsSeat played.program played.limits v (steps v) (slice_index_or (slice_set seats t new) v seat) in
+        subst P (sym e) (subst (IsSeat played.program played.limits t (steps t)) (sym (get_or-set_same seats t new seat l)) here)
+    go (inr n) = subst (IsSeat played.program played.limits u (steps u)) (sym (get_or-set_other seats t u new seat n)) (there u seat n in_range)
+
+-- another state of a thread that is as good
+pub playing-same : (played : Played) (cells : List Cell) (seats : List Seat) (t : ℕ) (new : Seat) → IsPlaying played cells seats → t < length seats →
+    IsSeat played.program played.limits t (thread_steps played t) new → IsPlaying played cells (slice_set seats t new)
+playing-same played cells seats t new is l here = record {
+  rules = is.rules;
+  bounds = is.bounds;
+  legal = is.legal;
+  memory = is.memory;
+  counted = length-set seats t new ∙ is.counted;
+  each = each_seat played (thread_steps played) seats t new l here (λ u seat n ul. is.each u seat ul);
+}
+
+-- the world after one more step
+pub world-step : (played : Played) (t : ℕ) → has_ended (wanted_by played t) ≡ false → world_of (after_step played t) ≡ record {
+    memory = put (world_of played).memory (word_of (wanted_by played t)) (record { thread = t; step = length (thread_steps played t) + 1 }) (wrote (wanted_by played t) (found_in (world_of played).memory (wanted_by played t)));
+    threads = slice_set (world_of played).threads t (thread_steps played t ++ next_step played t ∷ []);
+  }
+world-step played t lives =
+    play-push (threads_in played) played.taken t (start_of played.program) ∙
+    move_shape (threads_in played) keep_all t (world_of played) (wanted_by played t) refl lives
+
+-- the thread's steps after one more
+pub steps-step : (played : Played) (t : ℕ) → t < length played.program.threads → has_ended (wanted_by played t) ≡ false →
+    thread_steps (after_step played t) t ≡ thread_steps played t ++ next_step played t ∷ []
+steps-step played t l lives =
+    ap (λ (w : World). steps_of w.threads t) (world-step played t lives) ∙
+    set_here (world_of played).threads t (thread_steps played t ++ next_step played t ∷ []) (let c = threads_count played in omega (arith, c, l))
+
+pub steps-other : (played : Played) (t u : ℕ) → has_ended (wanted_by played t) ≡ false → (u ≡ t → ⊥) → thread_steps (after_step played t) u ≡ thread_steps played u
+steps-other played t u lives n =
+    ap (λ (w : World). steps_of w.threads u) (world-step played t lives) ∙
+    set_there (world_of played).threads t u (thread_steps played t ++ next_step played t ∷ []) n
+
+-- a thread that wants a step took fewer than the limit says
+pub has_room : (played : Played) (t : ℕ) → has_ended (wanted_by played t) ≡ false → length (thread_steps played t) < played.limits.steps
+has_room played t lives = go (cases_lt (length (thread_steps played t)) played.limits.steps)
+  where
+    go : (length (thread_steps played t) < played.limits.steps) ⊎ (played.limits.steps ≤ length (thread_steps played t)) → length (thread_steps played t) < played.limits.steps
+    go (inl l) = l
+    go (inr l) = absurd (let no : true ≡ false = sym (ends_within played.program played.limits t (thread_steps played t) l) ∙ lives in cc no)
+
+-- the state after a step
+pub playing-step : (played : Played) (cells : List Cell) (seats : List Seat) (t : ℕ) (new : Seat) → IsPlaying played cells seats → t < length seats → has_ended (wanted_by played t) ≡ false →
+    IsSeat played.program played.limits t (thread_steps played t ++ next_step played t ∷ []) new →
+    IsPlaying (after_step played t)
+    (put cells (word_of (wanted_by played t)) (record { thread = t; step = length (thread_steps played t) + 1 }) (wrote (wanted_by played t) (found_in cells (wanted_by played t))))
+    (slice_set seats t new)
+playing-step played cells seats t new is l lives here = record {
+  rules = is.rules;
+  bounds = is.bounds;
+  legal = legal-push (threads_in played) played.taken t (start_of played.program) is.legal lives;
+  memory =
+      ap (λ (m : List Cell). put m (word_of (wanted_by played t)) (record { thread = t; step = length (thread_steps played t) + 1 }) (wrote (wanted_by played t) (found_in m (wanted_by played t)))) is.memory ∙
+          ap (λ (w : World). w.memory) (sym (world-step played t lives));
+  counted = length-set seats t new ∙ is.counted;
+  each = each_seat played (thread_steps (after_step played t)) seats t new l
+      (subst (λ (s : List Step). IsSeat played.program played.limits t s new) (sym (steps-step played t (let c = is.counted in omega (arith, c, l)) lives)) here)
+      (λ u seat n ul. subst (λ (s : List Step). IsSeat played.program played.limits u s (slice_index_or seats u seat)) (sym (steps-other played t u lives n)) (is.each u seat ul));
+}

@@ -1,0 +1,43 @@
+-- The state of a plain machine.
+use Rattle.std.specs.Prelude.{◌≡◌, ℕ, ◌+◌, ◌<◌, Option, List, [], ◌∷◌, ◌++◌, length, slice_index_or}
+use Rattle.replay_model.specs.declared.Access.{Access}
+use Rattle.replay_model.specs.declared.Want.{Want}
+use Rattle.replay_model.specs.Steps.{Tag, Cell, Step, word_of, access_of, accesses_from}
+use Rattle.replay_model.specs.ThreadLogs.{thread_log, is_full}
+use Rattle.replay_model.specs.Histories.{IsLegal}
+use Rattle.machine.specs.Programs.{ProgramValue, LimitsValue, IsProgram, AreLimits}
+use Rattle.machine.specs.Cores.{settled, took}
+use Rattle.machine.specs.Runs.{state_after, start_of}
+use Rattle.history.specs.declared.seat.Seat.{Seat}
+use Rattle.history.specs.Played.{Played, threads_in, world_of, thread_steps}
+use Rattle.history.specs.Sightings.{has_pair, has_seen, Sees}
+
+-- what is kept of thread t is what these steps made of it, but for local instructions that are left
+pub record IsSeat (p : ProgramValue) (limits : LimitsValue) (t : ℕ) (steps : List Step) (seat : Seat) : Type 0 where
+  pub core : settled p limits (is_full limits.entries steps) seat.core ≡ state_after p limits t steps
+  pub thread : seat.core.thread ≡ t
+  pub accesses : seat.accesses.items ≡ accesses_from 1 steps
+  pub seen : (word : ℕ) (tag : Tag) → has_pair word tag seat.seen.keys ≡ has_seen word tag steps
+  pub entries : length seat.seen.keys ≡ length (thread_log steps)
+
+-- the cells and the threads are those that a legal history leads to
+pub record IsPlaying (played : Played) (cells : List Cell) (seats : List Seat) : Type 0 where
+  pub rules : IsProgram played.program
+  pub bounds : AreLimits played.limits
+  pub legal : IsLegal (threads_in played) played.taken (start_of played.program)
+  pub memory : cells ≡ (world_of played).memory
+  pub counted : length seats ≡ length played.program.threads
+  pub each : (t : ℕ) (seat : Seat) → t < length seats → IsSeat played.program played.limits t (thread_steps played t) (slice_index_or seats t seat)
+
+-- a step that wanted this and found this was taken
+pub record Takes (want : Want) (found : Option Cell) (old : Seat) (access : Access) (new : Seat) : Type 0 where
+  pub told : access ≡ access_of (old.core.steps + 1) (record { want = want; found = found })
+  pub core : new.core ≡ took old.core found
+  pub accesses : new.accesses.items ≡ old.accesses.items ++ access ∷ []
+  pub seen : Sees (word_of want) found old.seen.keys new.seen.keys
+
+-- nothing was taken
+pub record Keeps (old new : Seat) : Type 0 where
+  pub core : new.core ≡ old.core
+  pub accesses : new.accesses.items ≡ old.accesses.items
+  pub seen : new.seen.keys ≡ old.seen.keys

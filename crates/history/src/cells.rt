@@ -1,0 +1,68 @@
+// What a memory step finds in the cells, and what it writes to them.
+ghost use Rattle.std.specs.Prelude.{◌≡◌, ◌<◌, ◌≤◌, length, slice_index_or, false, true};
+ghost use Rattle.light_base.specs.Tags.{HasTag};
+ghost use Rattle.replay_model.specs.Steps.{same_tag, word_of, has_ended, wrote, found_in, put};
+
+use light_base::{Cell, Event, Tag};
+use replay_model::Want;
+
+// Whether two words have the same writer.
+fn same_tag(a: Tag, b: Tag) -> bool
+    ensures { result ≡ same_tag a b }
+{
+    a.writer() == b.writer()
+}
+
+// The word that is wanted.
+pub(crate) fn word_of(want: Want) -> u16
+    ensures { result ≡ word_of want }
+{
+    match want {
+        Want::Load(word) => word,
+        Want::Store(word, _) => word,
+        Want::Swap(word, _) => word,
+        Want::Cond(word, _, _) => word,
+        Want::Ended(_) => 0,
+    }
+}
+
+// The cell that a reading step finds.
+pub(crate) fn found_in(cells: &[Cell], want: Want) -> Option<Cell>
+    requires { has_ended want ≡ false → word_of want < length cells.now }
+    ensures { result ≡ found_in cells.now want }
+{
+    match want {
+        Want::Load(word) | Want::Swap(word, _) | Want::Cond(word, _, _) => {
+            Some(cells[usize::from(word)])
+        }
+        Want::Store(_, _) | Want::Ended(_) => None,
+    }
+}
+
+// The value that a step writes, if it writes.
+pub(crate) fn written(want: Want, found: Option<Cell>) -> Option<u32>
+    ensures { result ≡ wrote want found }
+{
+    match want {
+        Want::Store(_, value) | Want::Swap(_, value) => Some(value),
+        Want::Cond(_, seen, value) => match found {
+            Some(cell) if same_tag(cell.tag, seen) => Some(value),
+            _ => None,
+        },
+        Want::Load(_) | Want::Ended(_) => None,
+    }
+}
+
+// Writes to a word, if there is something to write.
+pub(crate) fn put(cells: &mut [Cell], word: u16, event: Event, value: Option<u32>)
+    requires word { word < length cells.old }
+    requires event { HasTag event }
+    ensures { cells.new ≡ put cells.old word event value }
+{
+    if let Some(value) = value {
+        cells[usize::from(word)] = Cell {
+            value,
+            tag: event.tag(),
+        };
+    }
+}

@@ -1,0 +1,45 @@
+-- How a run of local instructions settles a state, from what is known where it is called.
+use Rattle.std.proofs.Common.{◌≡◌, ℕ, ◌<◌, ◌≤◌, Bool, List, [], length, refl, sym, ◌∙◌, ap, subst, arith}
+use Rattle.std.specs.Prelude.{Option, Some, None}
+use Rattle.std.proofs.lemmas.List.Elements.{All-get_or}
+use Rattle.replay_model.specs.declared.Want.{Want}
+use Rattle.machine.specs.declared.program.Instr.{Instr}
+use Rattle.machine.specs.Programs.{ProgramValue, LimitsValue, AreLimits, IsCode, IsProgram, code_of}
+use Rattle.machine.specs.Cores.{State, run_on, settled}
+use Rattle.machine.proofs.Local.{run_on-entries}
+use Rattle.machine.proofs.Rests.{settled-some, settled-none}
+
+-- nothing is pending
+pub none_from : (o : Option Want) → ((w : Want) → o ≡ Some w → ⊥) → o ≡ None
+none_from None h = refl
+none_from (Some w) h = absurd (h w refl)
+
+-- something is pending already
+pub settled_already : (p : ProgramValue) (limits : LimitsValue) (full : Bool) (s now : State) (wanted : Want) → s ≡ now → s.pending ≡ Some wanted →
+    (now ≡ settled p limits full now) × (now.pending ≡ Some wanted)
+settled_already p limits full s now wanted same h =
+    let P : State → Type 0 = λ n. (n ≡ settled p limits full n) × (n.pending ≡ Some wanted) in
+    subst P same (sym (settled-some p limits full s wanted h), h)
+
+-- the code of a thread of a program keeps the rules
+pub code_rules : (p : ProgramValue) (thread : ℕ) (code : List Instr) → IsProgram p → thread < length p.threads → code ≡ code_of p thread → IsCode code
+code_rules p thread code rules there e = subst IsCode (sym e) (All-get_or IsCode p.threads thread [] there rules.each)
+
+pub words_few : (p : ProgramValue) (words : List ℕ) → IsProgram p → words ≡ p.words → length words ≤ 4096
+words_few p words rules e = let P : List ℕ → Type 0 = λ w. length w ≤ 4096 in subst P (sym e) rules.most_words
+
+pub limits_rules : (limits : LimitsValue) (steps instr : ℕ) → AreLimits limits → steps ≡ limits.steps → instr ≡ limits.instr → AreLimits (record { steps = steps; instr = instr; entries = 0 })
+limits_rules limits steps instr rules s i = let a = rules.steps in let b = rules.instr in record { steps = omega arith; instr = omega arith; entries = omega arith }
+
+-- the run settles the state
+pub run_on-settled : (p : ProgramValue) (limits : LimitsValue) (full : Bool) (s now : State) → s ≡ now → s.pending ≡ None → (thread : ℕ) → thread ≡ s.thread →
+    (code : List Instr) → code ≡ code_of p thread → (words : List ℕ) → words ≡ p.words → (steps instr : ℕ) → steps ≡ limits.steps → instr ≡ limits.instr →
+    run_on code (length words) (record { steps = steps; instr = instr; entries = 0 }) full s ≡ settled p limits full now
+run_on-settled p limits full s now same none thread t code c words w steps instr n i =
+    ap (λ (k : List Instr). run_on k (length words) (record { steps = steps; instr = instr; entries = 0 }) full s) (c ∙ ap (code_of p) t) ∙
+    ap (λ (k : List ℕ). run_on (code_of p s.thread) (length k) (record { steps = steps; instr = instr; entries = 0 }) full s) w ∙
+    ap (λ (k : ℕ). run_on (code_of p s.thread) (length p.words) (record { steps = k; instr = instr; entries = 0 }) full s) n ∙
+    ap (λ (k : ℕ). run_on (code_of p s.thread) (length p.words) (record { steps = limits.steps; instr = k; entries = 0 }) full s) i ∙
+    run_on-entries (code_of p s.thread) (length p.words) limits 0 full s ∙
+    sym (settled-none p limits full s none) ∙
+    ap (λ (k : State). settled p limits full k) same

@@ -1,0 +1,136 @@
+-- Local instructions: where they go on, where they stop, and what they keep.
+use Rattle.std.proofs.Common.{◌≡◌, ℕ, zero, suc, ◌+◌, ◌-◌, ◌<◌, ◌≤◌, Bool, true, false, cond, List, length, refl, ◌∙◌, ap, arith}
+use Rattle.std.specs.Prelude.{slice_get, slice_index, Option, Some, None}
+use Rattle.std.proofs.lemmas.Bool.{leb-false}
+use Rattle.std.proofs.lemmas.List.{length_push}
+use Rattle.replay_model.specs.declared.Want.{Want}
+use Rattle.replay_model.specs.declared.End.{End}
+use Rattle.machine.specs.declared.program.Instr.{Instr}
+use Rattle.machine.specs.declared.program.Op.{Op}
+use Rattle.machine.specs.declared.program.Op.TheVariants as op
+use Rattle.machine.specs.Programs.{LimitsValue}
+use Rattle.machine.specs.Cores.{State, is_halt, end_before, step_wanted, ended_or, comes_to, ran, instr_or_halt, waiting, waiting_or, run_local, run_on}
+
+-- where neither an end nor a memory step comes, no end comes
+pub no_end : (e : Option End) (w : Option Want) → ended_or e w ≡ None → (e ≡ None) × (w ≡ None)
+no_end None w h = (refl, h)
+no_end (Some e) w h = cc
+
+-- a test whose yes is an end was answered no
+pub passed : (b : Bool) (e : End) (rest : Option End) → cond b (Some e) rest ≡ None → (b ≡ false) × (rest ≡ None)
+passed false e rest h = (refl, h)
+passed true e rest h = cc
+
+-- an operation that is neither an end nor a memory step counts as one instruction
+counted : (o : Op) (s : State) (i : Instr) → is_halt o ≡ false → step_wanted o s i ≡ None → (ran o s i).instr ≡ s.instr + 1
+counted op.Halt s i h w = cc
+counted op.Const s i h w = refl
+counted op.Addi s i h w = refl
+counted op.Jeq s i h w = refl
+counted op.Out s i h w = refl
+counted op.Load s i h w = cc
+counted op.Store s i h w = cc
+
+-- where the thread goes on
+pub record GoesOn (limits : LimitsValue) (s : State) (i : Instr) : Type 0 where
+  pub lives : is_halt i.op ≡ false
+  pub room : s.instr < limits.instr
+  pub counts : (ran i.op s i).instr ≡ s.instr + 1
+
+pub goes_on : (words : ℕ) (limits : LimitsValue) (full : Bool) (s : State) (i : Instr) → comes_to words limits full s (Some i) ≡ None → GoesOn limits s i
+goes_on words limits full s i h =
+    let e = no_end (end_before words limits full s i) (step_wanted i.op s i) h in
+    let a = passed _ _ _ e.0 in
+    let b = passed _ _ _ a.1 in
+    record { lives = a.0; room = leb-false _ _ b.0; counts = counted i.op s i a.0 e.1 }
+
+-- past the end of the code nothing goes on
+pub going_instr : (words : ℕ) (limits : LimitsValue) (full : Bool) (s : State) (o : Option Instr) → comes_to words limits full s o ≡ None → GoesOn limits s (instr_or_halt o)
+going_instr words limits full s None h = cc
+going_instr words limits full s (Some i) h = goes_on words limits full s i h
+
+-- one step of a local run
+pub run_local-none : (n : ℕ) (code : List Instr) (words : ℕ) (limits : LimitsValue) (full : Bool) (s : State) → comes_to words limits full s (slice_get code s.place) ≡ None →
+    run_local (suc n) code words limits full s ≡ run_local n code words limits full (ran (instr_or_halt (slice_get code s.place)).op s (instr_or_halt (slice_get code s.place)))
+unfolding run_local
+run_local-none n code words limits full s h = ap (λ t. waiting_or s (slice_get code s.place) t (run_local n code words limits full (ran (instr_or_halt (slice_get code s.place)).op s (instr_or_halt (slice_get code s.place))))) h
+
+pub run_local-some : (n : ℕ) (code : List Instr) (words : ℕ) (limits : LimitsValue) (full : Bool) (s : State) (wanted : Want) → comes_to words limits full s (slice_get code s.place) ≡ Some wanted →
+    run_local (suc n) code words limits full s ≡ waiting s (slice_get code s.place) wanted
+unfolding run_local
+run_local-some n code words limits full s wanted h = ap (λ t. waiting_or s (slice_get code s.place) t (run_local n code words limits full (ran (instr_or_halt (slice_get code s.place)).op s (instr_or_halt (slice_get code s.place))))) h
+
+-- where the instruction is local, the thread runs on from what it does
+pub run_on-more : (code : List Instr) (words : ℕ) (limits : LimitsValue) (full : Bool) (s : State) (i : Instr) → slice_get code s.place ≡ Some i → comes_to words limits full s (Some i) ≡ None →
+    run_on code words limits full s ≡ run_on code words limits full (ran i.op s i)
+unfolding run_on
+run_on-more code words limits full s i at h =
+    let g = goes_on words limits full s i h in
+    let room = g.room in
+    let counts = g.counts in
+    let n : (limits.instr - s.instr) + 1 ≡ suc ((limits.instr - (ran i.op s i).instr) + 1) = omega arith in
+    ap (λ k. run_local k code words limits full s) n ∙
+    run_local-none _ code words limits full s (ap (comes_to words limits full s) at ∙ h) ∙
+    ap (λ o. run_local ((limits.instr - (ran i.op s i).instr) + 1) code words limits full (ran (instr_or_halt o).op s (instr_or_halt o))) at
+
+-- where it is not, the thread stops there
+pub run_on-stop : (code : List Instr) (words : ℕ) (limits : LimitsValue) (full : Bool) (s : State) (o : Option Instr) (wanted : Want) → slice_get code s.place ≡ o → comes_to words limits full s o ≡ Some wanted →
+    run_on code words limits full s ≡ waiting s o wanted
+unfolding run_on
+run_on-stop code words limits full s o wanted at h =
+    let n : (limits.instr - s.instr) + 1 ≡ suc (limits.instr - s.instr) = omega arith in
+    ap (λ k. run_local k code words limits full s) n ∙
+    run_local-some _ code words limits full s wanted (ap (comes_to words limits full s) at ∙ h) ∙
+    ap (λ o. waiting s o wanted) at
+
+-- what a local run keeps of a state
+pub record Follows (old new : State) : Type 0 where
+  pub thread : new.thread ≡ old.thread
+  pub steps : new.steps ≡ old.steps
+  pub output : length old.output ≤ length new.output
+
+follows_all : {a b c : State} → Follows a b → Follows b c → Follows a c
+follows_all ab bc = record { thread = bc.thread ∙ ab.thread; steps = bc.steps ∙ ab.steps; output = let x = ab.output in let y = bc.output in omega arith }
+
+pub ran-follows : (o : Op) (s : State) (i : Instr) → Follows s (ran o s i)
+ran-follows op.Halt s i = record { thread = refl; steps = refl; output = omega arith }
+ran-follows op.Const s i = record { thread = refl; steps = refl; output = omega arith }
+ran-follows op.Addi s i = record { thread = refl; steps = refl; output = omega arith }
+ran-follows op.Jeq s i = record { thread = refl; steps = refl; output = omega arith }
+ran-follows op.Out s i = record { thread = refl; steps = refl; output = omega (arith, length_push s.output (slice_index s.registers i.a)) }
+ran-follows op.Load s i = record { thread = refl; steps = refl; output = omega arith }
+ran-follows op.Store s i = record { thread = refl; steps = refl; output = omega arith }
+
+pub waiting-follows : (s : State) (o : Option Instr) (wanted : Want) → Follows s (waiting s o wanted)
+waiting-follows s o wanted = record { thread = refl; steps = refl; output = omega arith }
+
+waiting_or-follows : (s : State) (o : Option Instr) (t : Option Want) (next : State) → Follows s next → Follows s (waiting_or s o t next)
+waiting_or-follows s o None next h = h
+waiting_or-follows s o (Some wanted) next h = waiting-follows s o wanted
+
+pub run_local-follows : (n : ℕ) (code : List Instr) (words : ℕ) (limits : LimitsValue) (full : Bool) (s : State) → Follows s (run_local n code words limits full s)
+unfolding run_local
+run_local-follows zero code words limits full s = record { thread = refl; steps = refl; output = omega arith }
+run_local-follows (suc n) code words limits full s =
+    let i = instr_or_halt (slice_get code s.place) in
+    waiting_or-follows s (slice_get code s.place) (comes_to words limits full s (slice_get code s.place)) _
+    (follows_all (ran-follows i.op s i) (run_local-follows n code words limits full (ran i.op s i)))
+
+pub run_on-follows : (code : List Instr) (words : ℕ) (limits : LimitsValue) (full : Bool) (s : State) → Follows s (run_on code words limits full s)
+unfolding run_on
+run_on-follows code words limits full s = run_local-follows _ code words limits full s
+
+-- how many entries a log may have does not matter to local instructions
+pub run_local-entries : (n : ℕ) (code : List Instr) (words : ℕ) (limits : LimitsValue) (entries : ℕ) (full : Bool) (s : State) →
+    run_local n code words (record limits { entries = entries }) full s ≡ run_local n code words limits full s
+unfolding run_local
+run_local-entries zero code words limits entries full s = refl
+run_local-entries (suc n) code words limits entries full s =
+    let o = slice_get code s.place in
+    let i = instr_or_halt o in
+    ap (λ (next : State). waiting_or s o (comes_to words limits full s o) next) (run_local-entries n code words limits entries full (ran i.op s i))
+
+pub run_on-entries : (code : List Instr) (words : ℕ) (limits : LimitsValue) (entries : ℕ) (full : Bool) (s : State) →
+    run_on code words (record limits { entries = entries }) full s ≡ run_on code words limits full s
+unfolding run_on
+run_on-entries code words limits entries full s = run_local-entries _ code words limits entries full s

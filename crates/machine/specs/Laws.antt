@@ -1,0 +1,41 @@
+-- What holds of the threads of every program.
+use Rattle.std.specs.Prelude.{◌≡◌, ℕ, Bool, IsSome, List, [], ◌∷◌, ◌++◌, length}
+use Rattle.replay_model.specs.Steps.{Step}
+use Rattle.replay_model.specs.Threads.{StaysWithin, HasOnly, EndsWithin}
+use Rattle.replay_model.specs.ThreadLogs.{is_full}
+use Rattle.machine.specs.Programs.{ProgramValue, LimitsValue}
+use Rattle.machine.specs.Cores.{State, settled, took}
+use Rattle.machine.specs.Runs.{state_after, threads_of}
+
+-- no thread asks for a word that the program does not have
+abbrev pub StayWithinWords : Type 0
+StayWithinWords = (p : ProgramValue) (limits : LimitsValue) → StaysWithin (threads_of p limits) (length p.words)
+
+-- a thread that the program does not have has ended
+abbrev pub HaveOnlyItsThreads : Type 0
+HaveOnlyItsThreads = (p : ProgramValue) (limits : LimitsValue) → HasOnly (threads_of p limits) (length p.threads)
+
+-- no thread takes more steps than the limit says
+abbrev pub EndWithinSteps : Type 0
+EndWithinSteps = (p : ProgramValue) (limits : LimitsValue) → EndsWithin (threads_of p limits) limits.steps
+
+-- a state counts the steps that led to it
+abbrev pub CountSteps : Type 0
+CountSteps = (p : ProgramValue) (limits : LimitsValue) (t : ℕ) (steps : List Step) → (state_after p limits t steps).steps ≡ length steps
+
+-- a state is one of its thread
+abbrev pub KeepThread : Type 0
+KeepThread = (p : ProgramValue) (limits : LimitsValue) (t : ℕ) (steps : List Step) → (state_after p limits t steps).thread ≡ t
+
+-- one more step is taken from the state before it
+abbrev pub GoStepByStep : Type 0
+GoStepByStep = (p : ProgramValue) (limits : LimitsValue) (t : ℕ) (steps : List Step) (step : Step) →
+    state_after p limits t (steps ++ step ∷ []) ≡ settled p limits (is_full limits.entries (steps ++ step ∷ [])) (took (state_after p limits t steps) step.found)
+
+-- a settled state has something pending
+abbrev pub SettleWithPending : Type 0
+SettleWithPending = (p : ProgramValue) (limits : LimitsValue) (full : Bool) (s : State) → IsSome (settled p limits full s).pending
+
+-- a state with something pending is settled
+abbrev pub StaySettled : Type 0
+StaySettled = (p : ProgramValue) (limits : LimitsValue) (full : Bool) (s : State) → IsSome s.pending → settled p limits full s ≡ s

@@ -1,0 +1,28 @@
+-- What one instruction does, apart from what it leaves alone.
+use Rattle.std.specs.Prelude.{◌≡◌, ℕ, ◌+◌, Bool, Some, None, List}
+use Rattle.machine.specs.declared.program.Instr.{Instr}
+use Rattle.machine.specs.declared.cores.Course.{Course}
+use Rattle.machine.specs.declared.cores.Rest.{Rest}
+use Rattle.machine.specs.declared.cores.Turn.{Turn}
+use Rattle.machine.specs.declared.cores.Turn.TheVariants as turn
+use Rattle.machine.specs.Programs.{LimitsValue}
+use Rattle.machine.specs.Cores.{State, comes_to, ran}
+
+-- the limits that bound a course; how many entries a log may have is settled before it
+abbrev pub bounds_of : Course → LimitsValue
+bounds_of c = record { steps = c.most_steps; instr = c.most_instr; entries = 0 }
+
+-- a state with these parts, and all else as in s
+abbrev pub moved : State → List ℕ → ℕ → List ℕ → ℕ → ℕ → State
+moved s registers place output steps instr = record s { registers = registers; place = place; output = output; steps = steps; instr = instr }
+
+-- the same, stopped at a place with something pending
+abbrev pub rested : State → List ℕ → List ℕ → ℕ → Rest → State
+rested s registers output steps rest = record s { registers = registers; place = rest.place; output = output; steps = steps; instr = rest.instr; doing = rest.doing; pending = Some rest.wanted }
+
+-- the thread stops at an instruction, or has run it and gone to the next place
+abbrev pub Turns : ℕ → LimitsValue → Bool → Instr → State → Turn → List ℕ → List ℕ → Type 0
+Turns words limits full i old (turn.Stop wanted) registers output =
+    (comes_to words limits full old (Some i) ≡ Some wanted) × (registers ≡ old.registers) × (output ≡ old.output)
+Turns words limits full i old (turn.Next place) registers output =
+    (comes_to words limits full old (Some i) ≡ None) × (ran i.op old i ≡ record old { registers = registers; place = place; output = output; instr = old.instr + 1 })

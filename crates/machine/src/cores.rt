@@ -1,0 +1,392 @@
+// One thread of a program: its registers and its place, and what it wants of the memory next.
+ghost use Rattle.std.specs.Prelude.{◌≡◌, ℕ, ◌+◌, ◌<◌, ◌≤◌, true, false, Some, None, List, length, take, IfOk, OnErr, IsSome, IsSomeAnd, option_and_then};
+ghost use Rattle.replay_model.specs.Steps.{reads};
+ghost use Rattle.machine.specs.Programs.{IsCode, IsInstr, has_registers};
+ghost use Rattle.machine.specs.Cores.{State, first_state, is_memory, comes_to, run_on, settled, took, end_of, report_of, is_store};
+ghost use Rattle.machine.specs.Turns.{bounds_of, moved, rested, Turns};
+
+use crate::program::{Instr, Limits, Op, Program};
+use light_base::{Cell, Memory};
+use replay_model::{End, Want};
+use std::alloc::Global;
+use std::marker::Model;
+
+/// The most values that a thread puts out.
+const MOST_OUTPUTS: usize = 65_536;
+
+/// What stands past the end of a code.
+const HALT: Instr = Instr {
+    op: Op::Halt,
+    a: 0,
+    b: 0,
+    c: 0,
+    imm: 0,
+};
+
+/// How a thread ended, and what it did.
+#[derive(Debug, Drop)]
+pub struct RunReport {
+    end: End,
+    steps: u32,
+    instr: u32,
+    output: Vec<u32>,
+}
+
+impl Model for RunReport {
+    ghost use Rattle.machine.specs.Cores.{Report};
+
+    ghost Value = { Report };
+
+    ghost view = { λ r. record { end = r.end; steps = r.steps; instr = r.instr; output = r.output.items } };
+}
+
+/// The state of one thread.
+#[derive(Debug, Drop)]
+pub struct Core {
+    thread: u8,
+    registers: [u32; 16],
+    place: usize,
+    output: Vec<u32>,
+    steps: u32,
+    instr: u32,
+    doing: Instr,
+    pending: Option<Want>,
+}
+
+impl Model for Core {
+    ghost use Rattle.machine.specs.Cores.{State, IsState};
+
+    ghost Value = { State };
+
+    ghost view = { λ c. record { thread = c.thread; registers = c.registers; place = c.place; output = c.output.items; steps = c.steps; instr = c.instr; doing = c.doing; pending = c.pending } };
+
+    ghost invariant = { λ c. IsState (record { thread = c.thread; registers = c.registers; place = c.place; output = c.output.items; steps = c.steps; instr = c.instr; doing = c.doing; pending = c.pending }) };
+}
+
+/// What came of an instruction.
+#[derive(Clone, Copy)]
+enum Turn {
+    /// It was local, and the thread goes on at this place.
+    Next(usize),
+    /// The thread stays before it and wants this.
+    Stop(Want),
+}
+
+/// Where a thread stopped, and what it wants there.
+#[derive(Clone, Copy)]
+struct Rest {
+    place: usize,
+    instr: u32,
+    doing: Instr,
+    wanted: Want,
+}
+
+/// What a thread runs between two memory steps, and what bounds it.
+#[derive(Clone, Copy)]
+struct Course<'a> {
+    code: &'a [Instr],
+    words: usize,
+    most_steps: u32,
+    most_instr: u32,
+    full: bool,
+    steps: u32,
+}
+
+impl Course<'_> {
+    // The memory step of this instruction, or the end that comes before it.
+    fn memory_step(&self, registers: &[u32; 16], i: Instr) -> Want
+        requires words { self.now.words ≤ 4096 }
+        requires registers { has_registers i ≡ true }
+        requires memory { is_memory i.op ≡ true }
+        ensures { (s : State) (place instr : ℕ) (output : List ℕ) → instr < self.now.most_instr → comes_to self.now.words (bounds_of self.now) self.now.full (moved s registers.now place output self.now.steps instr) (Some i) ≡ Some result }
+    {
+        let address = registers[usize::from(i.b)].wrapping_add(i.imm);
+        if address as usize >= self.words {
+            return Want::Ended(End::BadAddress(address));
+        }
+        if self.steps >= self.most_steps {
+            return Want::Ended(End::StepsSpent);
+        }
+        let word = address as u16;
+        match i.op {
+            Op::Store => Want::Store(word, registers[usize::from(i.a)]),
+            _ if self.full => Want::Ended(End::EntriesFull),
+            _ => Want::Load(word),
+        }
+    }
+
+    // Takes the instruction at a place, where it is local; an `Err` comes only from putting out a value.
+    fn turn(
+        &self,
+        registers: &mut [u32; 16],
+        place: usize,
+        output: &mut Vec<u32>,
+        instr: u32,
+        i: Instr,
+    ) -> Result<Turn, Memory>
+        requires words { self.now.words ≤ 4096 }
+        requires place { place < 4096 }
+        requires rules { IsInstr (length self.now.code.now) i }
+        ensures ok { IfOk result (λ turn. (s : State) → Turns self.now.words (bounds_of self.now) self.now.full i (moved s registers.old place output.old.items self.now.steps instr) turn registers.new output.new.items) }
+        ensures err { OnErr result ((s : State) → comes_to self.now.words (bounds_of self.now) self.now.full (moved s registers.old place output.old.items self.now.steps instr) (Some i) ≡ None) }
+        ensures puts { OnErr result (i.op ≡ Op.Out) }
+        ensures kept { take (length output.old.items) output.new.items ≡ output.old.items }
+    {
+        let a = usize::from(i.a);
+        let b = usize::from(i.b);
+        match i.op {
+            Op::Halt => return Ok(Turn::Stop(Want::Ended(End::Halted))),
+            _ if instr >= self.most_instr => {
+                return Ok(Turn::Stop(Want::Ended(End::InstrSpent)));
+            }
+            Op::Const => registers[a] = i.imm,
+            Op::Addi => registers[a] = registers[b].wrapping_add(i.imm),
+            Op::Jeq => {
+                if registers[a] == registers[b] {
+                    return Ok(Turn::Next(i.imm as usize));
+                }
+            }
+            Op::Out => {
+                if output.len() >= MOST_OUTPUTS {
+                    return Ok(Turn::Stop(Want::Ended(End::OutputFull)));
+                }
+                if output.push(registers[a]).is_err() {
+                    return Err(Memory);
+                }
+            }
+            Op::Load | Op::Store => return Ok(Turn::Stop(self.memory_step(registers, i))),
+        }
+        Ok(Turn::Next(place + 1))
+    }
+
+    // Runs local instructions until the thread stops; an `Err` comes only where it puts out a value before that.
+    fn run(
+        &self,
+        registers: &mut [u32; 16],
+        mut place: usize,
+        output: &mut Vec<u32>,
+        mut instr: u32,
+    ) -> Result<Rest, Memory>
+        requires words { self.now.words ≤ 4096 }
+        requires code { IsCode self.now.code.now }
+        ensures ok { IfOk result (λ rest. (s : State) → run_on self.now.code.now self.now.words (bounds_of self.now) self.now.full (moved s registers.old place output.old.items self.now.steps instr) ≡ rested s registers.new output.new.items self.now.steps rest) }
+        ensures err { OnErr result ((s : State) → length output.old.items < length (run_on self.now.code.now self.now.words (bounds_of self.now) self.now.full (moved s registers.old place output.old.items self.now.steps instr)).output) }
+        ensures kept { take (length output.old.items) output.new.items ≡ output.old.items }
+    {
+        while place < self.code.len() {
+            let i = self.code[place];
+            match self.turn(registers, place, output, instr, i)? {
+                Turn::Next(next) => {
+                    place = next;
+                    instr += 1;
+                }
+                Turn::Stop(wanted) => {
+                    return Ok(Rest {
+                        place,
+                        instr,
+                        doing: i,
+                        wanted,
+                    });
+                }
+            }
+        }
+        Ok(Rest {
+            place,
+            instr,
+            doing: HALT,
+            wanted: Want::Ended(End::Halted),
+        })
+    }
+}
+
+impl Core {
+    /// A thread at its start: all registers are 0, and nothing is pending.
+    pub fn new(alloc: Global, thread: u8) -> Core
+        requires { thread ≤ 14 }
+        ensures { result ≡ first_state thread }
+    {
+        Core {
+            thread,
+            registers: [0; 16],
+            place: 0,
+            output: Vec::new(alloc),
+            steps: 0,
+            instr: 0,
+            doing: HALT,
+            pending: None,
+        }
+    }
+
+    /// Runs the instructions that touch no shared word, up to the next memory step or the end, which is then pending;
+    /// with something pending already, answers that and changes nothing. `full` says that the thread's log has as many
+    /// entries as it may have. An `Err` comes only where these instructions put out a value.
+    pub fn go(&mut self, program: &Program, limits: &Limits, full: bool) -> Result<Want, Memory>
+        requires { self.old.thread < length program.now.threads }
+        ensures ok { IfOk result (λ wanted. (self.new ≡ settled program.now limits.now full self.old) × (self.new.pending ≡ Some wanted)) }
+        ensures err { OnErr result (self.new ≡ self.old) }
+        ensures memory { OnErr result (length self.old.output < length (settled program.now limits.now full self.old).output) }
+    {
+        if let Some(wanted) = self.pending {
+            return Ok(wanted);
+        }
+        let course = Course {
+            code: program.threads(usize::from(self.thread)),
+            words: program.words().len(),
+            most_steps: limits.steps(),
+            most_instr: limits.instr(),
+            full,
+            steps: self.steps,
+        };
+        let mut registers = self.registers;
+        let outputs = self.output.len();
+        match course.run(&mut registers, self.place, &mut self.output, self.instr) {
+            Ok(rest) => {
+                self.registers = registers;
+                self.place = rest.place;
+                self.instr = rest.instr;
+                self.doing = rest.doing;
+                self.pending = Some(rest.wanted);
+                Ok(rest.wanted)
+            }
+            Err(Memory) => {
+                self.output.truncate(outputs);
+                Err(Memory)
+            }
+        }
+    }
+
+    /// Takes the cell that the pending reading step found; nothing is pending afterwards.
+    pub fn found(&mut self, cell: Cell)
+        requires { IsSomeAnd self.old.pending (λ wanted. reads wanted ≡ true) }
+        ensures { self.new ≡ took self.old (Some cell) }
+    {
+        self.registers[usize::from(self.doing.a)] = cell.value;
+        self.place += 1;
+        self.steps += 1;
+        self.instr += 1;
+        self.pending = None;
+    }
+
+    /// The pending store was made; nothing is pending afterwards.
+    pub fn stored(&mut self)
+        requires { IsSomeAnd self.old.pending (λ wanted. is_store wanted ≡ true) }
+        ensures { self.new ≡ took self.old None }
+    {
+        self.place += 1;
+        self.steps += 1;
+        self.instr += 1;
+        self.pending = None;
+    }
+
+    /// How many memory steps it has taken.
+    pub fn steps(&self) -> u32
+        ensures { result ≡ self.now.steps }
+    {
+        self.steps
+    }
+
+    /// How many instructions it has finished.
+    pub fn instr(&self) -> u32
+        ensures { result ≡ self.now.instr }
+    {
+        self.instr
+    }
+
+    /// What it has put out.
+    pub fn outputs(&self) -> &[u32]
+        ensures { result.now ≡ self.now.output }
+    {
+        &self.output
+    }
+
+    pub fn registers(&self) -> &[u32; 16]
+        ensures { result.now ≡ self.now.registers }
+    {
+        &self.registers
+    }
+
+    /// How it ended; None until its end is pending.
+    pub fn end(&self) -> Option<End>
+        ensures { result ≡ option_and_then end_of self.now.pending }
+    {
+        match self.pending {
+            Some(Want::Ended(end)) => Some(end),
+            _ => None,
+        }
+    }
+
+    /// What a thread that has ended reports.
+    pub fn report(self) -> RunReport
+        requires { IsSome (option_and_then end_of self.pending) }
+        ensures { result ≡ report_of self }
+    {
+        let Core {
+            pending,
+            steps,
+            instr,
+            output,
+            ..
+        } = self;
+        let Some(Want::Ended(end)) = pending else {
+            unreachable!()
+        };
+        RunReport {
+            end,
+            steps,
+            instr,
+            output,
+        }
+    }
+}
+
+impl RunReport {
+    /// The report of these parts.
+    pub fn new(end: End, steps: u32, instr: u32, output: Vec<u32>) -> RunReport
+        ensures { result ≡ record { end = end; steps = steps; instr = instr; output = output.items } }
+    {
+        RunReport {
+            end,
+            steps,
+            instr,
+            output,
+        }
+    }
+
+    /// How the thread ended.
+    pub fn end(&self) -> End
+        ensures { result ≡ self.now.end }
+    {
+        self.end
+    }
+
+    /// How many memory steps it took.
+    pub fn steps(&self) -> u32
+        ensures { result ≡ self.now.steps }
+    {
+        self.steps
+    }
+
+    /// How many instructions it finished.
+    pub fn instr(&self) -> u32
+        ensures { result ≡ self.now.instr }
+    {
+        self.instr
+    }
+
+    /// What it put out.
+    pub fn output(&self) -> &[u32]
+        ensures { result.now ≡ self.now.output }
+    {
+        &self.output
+    }
+
+    /// The end, the two counts and the output.
+    pub fn into_parts(self) -> (End, u32, u32, Vec<u32>)
+        ensures end { result.0 ≡ self.end }
+        ensures steps { result.1 ≡ self.steps }
+        ensures instr { result.2 ≡ self.instr }
+        ensures output { result.3.items ≡ self.output }
+    {
+        (self.end, self.steps, self.instr, self.output)
+    }
+}

@@ -1,0 +1,15 @@
+// What holds of the threads of every program.
+ghost use Rattle.machine.specs.Laws.{StayWithinWords, HaveOnlyItsThreads, EndWithinSteps, CountSteps, KeepThread, GoStepByStep, SettleWithPending, StaySettled};
+
+/// The threads of every program stay within its words, are no more than it has, and end within the limit of steps;
+/// the state after one more step follows from the state before it.
+pub fn machine_law()
+    ensures within { StayWithinWords }
+    ensures only { HaveOnlyItsThreads }
+    ensures ends { EndWithinSteps }
+    ensures steps { CountSteps }
+    ensures thread { KeepThread }
+    ensures step { GoStepByStep }
+    ensures pending { SettleWithPending }
+    ensures stays { StaySettled }
+{}

@@ -1,0 +1,9 @@
+pub mod Tags
+pub mod Moves
+pub mod ThreadLogs
+pub mod MoreReads
+pub mod WordSteps
+pub mod Plays
+pub mod Rounds
+pub mod Accesses
+pub mod Sights
