@@ -2,3 +2,6 @@
 #![tactic(auto)]
 
 mod lines;
+mod text;
+
+pub use text::text_of;
