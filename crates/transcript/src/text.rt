@@ -28,11 +28,7 @@ fn put_reports(text: &mut Vec<u8>, reports: &[RunReport]) -> Result<(), Memory>
 
 /// The transcript: each thread with its output, and each word whose last value isn't 0.
 #[tactic(auto, unfolding(crate::specs::Transcripts::transcript))]
-pub fn text_of(
-    alloc: Global,
-    reports: &[RunReport],
-    finals: &[u32],
-) -> Result<Vec<u8>, Memory>
+pub fn text_of(alloc: Global, reports: &[RunReport], finals: &[u32]) -> Result<Vec<u8>, Memory>
     ensures { IfOk result (λ text. text.items ≡ transcript reports.now finals.now) }
 {
     let mut text = Vec::new(alloc);
