@@ -6,3 +6,7 @@ pub mod Keeps
 pub mod Going
 pub mod Faults
 pub mod Rules
+pub mod ImageHead
+pub mod ImageSteps
+pub mod ImageNumbers
+pub mod ImageInstrs

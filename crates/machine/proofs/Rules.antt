@@ -71,7 +71,7 @@ no_fault_both : (first rest : Option ImageFault) → option_or first rest ≡ No
 no_fault_both None rest e = (refl, e)
 no_fault_both (Some fault) rest e = absurd cc
 
-abbrev KeepsRules : List Instr → Type 0
+abbrev pub KeepsRules : List Instr → Type 0
 KeepsRules code = AllByRecursion (IsInstr (length code)) code
 
 codes_keep : (thread : ℕ) (codes : List (List Instr)) → codes_fault thread codes ≡ None → AllByRecursion KeepsRules codes

@@ -49,13 +49,17 @@ codes_fault thread (code ∷ codes) = option_or (code_fault (length code) thread
 abbrev pub is_count : ℕ → ℕ → Bool
 is_count most n = nat_lt 0 n && not (nat_lt most n)
 
+-- 1 to 15 threads and 1 to 4,096 words
+abbrev pub are_counts : ℕ → ℕ → Bool
+are_counts threads words = is_count 15 threads && is_count 4096 words
+
 abbrev pub is_short_code : List Instr → Bool
 is_short_code code = not (nat_lt 4096 (length code))
 
 -- what a program breaks first: the counts of its threads and words, the length of a code, a rule of an instruction
 unfoldable pub program_fault : ProgramValue → Option ImageFault
 program_fault p =
-    if not (is_count 15 (length p.threads) && is_count 4096 (length p.words)) then Some (whole_fault kind.Counts)
+    if not (are_counts (length p.threads) (length p.words)) then Some (whole_fault kind.Counts)
     else if not (list_all is_short_code p.threads) then Some (whole_fault kind.Counts)
     else codes_fault 0 p.threads
 

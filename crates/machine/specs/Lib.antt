@@ -1,5 +1,7 @@
 pub mod Programs
 pub mod Faults
+pub mod Images
+pub mod ImageReading
 pub mod Cores
 pub mod Runs
 pub mod Laws

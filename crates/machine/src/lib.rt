@@ -2,6 +2,7 @@
 #![tactic(auto)]
 
 mod cores;
+mod image;
 mod image_fault;
 mod laws;
 mod program;
