@@ -5,3 +5,6 @@ mod lines;
 mod text;
 
 pub use text::text_of;
+
+#[cfg(test)]
+mod tests;
