@@ -70,9 +70,9 @@ told_in P (Some kept) files e h = let same : kept ≡ files = cc in subst P same
 not_stood : (r : Request) (old new : Outside) (files : Files) (text : List ℕ) → old.files ≡ Some files → NotDone r files → Stands r old new text → ⊥
 not_stood r old new files text told none stands =
     kept_in _ new.files (λ kept done. none.not text kept done) (told_in (λ f. IsSomeAnd new.files (λ kept. Means r f text kept)) old.files files told stands) where
-  kept_in : (P : Files → Type 0) (o : Option Files) → ((kept : Files) → P kept → ⊥) → IsSomeAnd o P → ⊥
-  kept_in P None none h = h
-  kept_in P (Some kept) none h = none kept h
+      kept_in : (P : Files → Type 0) (o : Option Files) → ((kept : Files) → P kept → ⊥) → IsSomeAnd o P → ⊥
+      kept_in P None none h = h
+      kept_in P (Some kept) none h = none kept h
 
 missing_answer : (r : Request) (old new : Outside) (files : Files) (s : Status) → old.files ≡ Some files → Ends r old new s → MissesName r files → (s ≡ status.StoreFault) ⊎ (s ≡ status.Memory)
 missing_answer r old new files status.Ok told ends miss = absurd (not_stood r old new files ends.text told (misses_not_done r files miss) ends.stands)

@@ -11,3 +11,6 @@ mod words;
 
 pub use status::{Status, status_text};
 pub use top::light;
+
+#[cfg(test)]
+mod tests;

@@ -82,7 +82,12 @@ pub fn status_text(alloc: Global, status: &Status) -> Result<Vec<u8>, Memory>
         Status::TooLong { .. } => text.extend_from_slice(b"light: too long\n")?,
         Status::ImageRefused(fault) => {
             let kind = u64::from(fault.kind.code());
-            put_refusal(&mut text, kind, u64::from(fault.thread), u64::from(fault.at))?
+            put_refusal(
+                &mut text,
+                kind,
+                u64::from(fault.thread),
+                u64::from(fault.at),
+            )?
         }
         Status::SinkFault => text.extend_from_slice(b"light: output fault\n")?,
         Status::Memory => text.extend_from_slice(b"light: out of memory\n")?,
