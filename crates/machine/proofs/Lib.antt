@@ -10,3 +10,5 @@ pub mod ImageHead
 pub mod ImageSteps
 pub mod ImageNumbers
 pub mod ImageInstrs
+pub mod ImageLaws
+pub mod ImageExamples
