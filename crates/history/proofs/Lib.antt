@@ -1,4 +1,6 @@
 pub mod Sightings
 pub mod Seats
 pub mod Playing
+pub mod Steps
 pub mod Turns
+pub mod Whole

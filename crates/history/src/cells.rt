@@ -14,39 +14,39 @@ fn same_tag(a: Tag, b: Tag) -> bool
 }
 
 // The word that is wanted.
-pub(crate) fn word_of(want: Want) -> u16
-    ensures { result ≡ word_of want }
+pub(crate) fn word_of(want: &Want) -> u16
+    ensures { result ≡ word_of want.now }
 {
     match want {
-        Want::Load(word) => word,
-        Want::Store(word, _) => word,
-        Want::Swap(word, _) => word,
-        Want::Cond(word, _, _) => word,
+        Want::Load(word) => *word,
+        Want::Store(word, _) => *word,
+        Want::Swap(word, _) => *word,
+        Want::Cond(word, _, _) => *word,
         Want::Ended(_) => 0,
     }
 }
 
 // The cell that a reading step finds.
-pub(crate) fn found_in(cells: &[Cell], want: Want) -> Option<Cell>
-    requires { has_ended want ≡ false → word_of want < length cells.now }
-    ensures { result ≡ found_in cells.now want }
+pub(crate) fn found_in(cells: &[Cell], want: &Want) -> Option<Cell>
+    requires { has_ended want.now ≡ false → word_of want.now < length cells.now }
+    ensures { result ≡ found_in cells.now want.now }
 {
     match want {
         Want::Load(word) | Want::Swap(word, _) | Want::Cond(word, _, _) => {
-            Some(cells[usize::from(word)])
+            Some(cells[usize::from(*word)])
         }
         Want::Store(_, _) | Want::Ended(_) => None,
     }
 }
 
 // The value that a step writes, if it writes.
-pub(crate) fn written(want: Want, found: Option<Cell>) -> Option<u32>
-    ensures { result ≡ wrote want found }
+pub(crate) fn written(want: &Want, found: &Option<Cell>) -> Option<u32>
+    ensures { result ≡ wrote want.now found.now }
 {
     match want {
-        Want::Store(_, value) | Want::Swap(_, value) => Some(value),
+        Want::Store(_, value) | Want::Swap(_, value) => Some(*value),
         Want::Cond(_, seen, value) => match found {
-            Some(cell) if same_tag(cell.tag, seen) => Some(value),
+            Some(cell) if same_tag(cell.tag, *seen) => Some(*value),
             _ => None,
         },
         Want::Load(_) | Want::Ended(_) => None,
