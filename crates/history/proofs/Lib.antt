@@ -4,3 +4,4 @@ pub mod Playing
 pub mod Steps
 pub mod Turns
 pub mod Whole
+pub mod Reports

@@ -1,5 +1,5 @@
 -- A set of sightings with one more.
-use Rattle.std.proofs.Common.{◌≡◌, ℕ, ◌+◌, Bool, true, false, cond, eqb, nat_eq, List, [], ◌∷◌, length, refl, sym, ◌∙◌, ap, add-zero}
+use Rattle.std.proofs.Common.{◌≡◌, ℕ, ◌+◌, Bool, true, false, cond, eqb, List, [], ◌∷◌, length, refl, sym, ◌∙◌, ap, add-zero}
 use Rattle.std.specs.Prelude.{Option, Some, None, ◌||◌, ◌&&◌, not}
 use Rattle.std.specs.Option.{option_eq}
 use Rattle.std.specs.List.{list_any}
@@ -46,12 +46,12 @@ sees_more word cell found writer old new added f w updates fresh count = record 
       or_flip (same (record { word = word; writer = writer }) (record { word = at; writer = tag })) (list_any (same (record { word = at; writer = tag })) old) ∙
       ap (λ (b : Bool). b || same (record { word = word; writer = writer }) (record { word = at; writer = tag })) (any-has_pair at tag old) ∙
       ap (λ (b : Bool). has_pair at tag old || b) (
-        same-is_pair word writer (record { word = at; writer = tag }) ∙ ap (λ (x : Tag). eqb word at && same_tag x tag) w ∙ ap (is_sight at tag word) (sym f)
+      same-is_pair word writer (record { word = at; writer = tag }) ∙ ap (λ (x : Tag). eqb word at && same_tag x tag) w ∙ ap (is_sight at tag word) (sym f)
       );
   count =
       count ∙ ap (λ (b : Bool). length old + cond b 1 0) fresh ∙ ap (λ (n : ℕ). length old + n) (
-        flip (list_any (same (record { word = word; writer = writer })) old) ∙
-            ap (λ (b : Bool). cond b 0 1) (any-has_pair word writer old ∙ ap (λ (x : Tag). has_pair word x old) w) ∙ ap (λ (o : Option Cell). new_pairs word o old) (sym f)
+      flip (list_any (same (record { word = word; writer = writer })) old) ∙
+      ap (λ (b : Bool). cond b 0 1) (any-has_pair word writer old ∙ ap (λ (x : Tag). has_pair word x old) w) ∙ ap (λ (o : Option Cell). new_pairs word o old) (sym f)
       );
 }
   where

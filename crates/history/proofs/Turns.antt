@@ -5,16 +5,14 @@ use Rattle.std.proofs.lemmas.List.{append-nil}
 use Rattle.replay_model.specs.Steps.{has_ended}
 use Rattle.replay_model.specs.Threads.{Threads}
 use Rattle.replay_model.specs.declared.End.{End}
-use Rattle.replay_model.specs.declared.Want.TheVariants as want
 use Rattle.replay_model.specs.Histories.{World, IsWhole, play, history_of, round_turns}
 use Rattle.replay_model.proofs.Plays.{play-append, play-history_of, history_of-append}
 use Rattle.replay_model.proofs.Rounds.{round_turns-append, round_turns-more, rounds_idle, rounds_whole}
-use Rattle.machine.specs.Programs.{ProgramValue, LimitsValue}
-use Rattle.machine.specs.Runs.{threads_of, start_of, rounds_of}
+use Rattle.machine.specs.Runs.{start_of, rounds_of}
 use Rattle.machine.proofs.Runs.{has_only, ends_within}
 use Rattle.history.specs.declared.plain.Stepped.{Stepped}
 use Rattle.history.specs.declared.plain.Stepped.TheVariants.{Took, Ended}
-use Rattle.history.specs.Played.{Played, unplayed, threads_in, world_of, wanted_by, after_step, steps_in, after_turns, HasBegun, IsOver}
+use Rattle.history.specs.Played.{Played, threads_in, world_of, wanted_by, steps_in, after_turns, HasBegun, IsOver}
 use Rattle.history.specs.Stepping.{IsStep}
 use Rattle.history.proofs.Playing.{threads_count}
 
@@ -87,8 +85,8 @@ round-more start old new t went turned now is turn quiet both = record {
       turn ∙ ap (λ (p : Played). after_turns p (t ∷ [])) is.turns ∙ sym (after_turns-append start (range_with_len 0 t) (t ∷ [])) ∙ ap (after_turns start) (sym (range-more t));
   idle = λ h.
       ap (steps_in start) (range-more t) ∙ steps_in-append start (range_with_len 0 t) (t ∷ []) ∙
-          ap (λ (l : List ℕ). l ++ steps_in (after_turns start (range_with_len 0 t)) (t ∷ [])) (is.idle (both h).0) ∙
-          ap (λ (p : Played). steps_in p (t ∷ [])) (sym is.turns) ∙ quiet (both h).1;
+      ap (λ (l : List ℕ). l ++ steps_in (after_turns start (range_with_len 0 t)) (t ∷ [])) (is.idle (both h).0) ∙
+      ap (λ (p : Played). steps_in p (t ∷ [])) (sym is.turns) ∙ quiet (both h).1;
 }
 
 -- the first of some turns were had
@@ -113,11 +111,11 @@ begun-later old mid xs ys zs turns new e m begun =
       rest = b.rest ++ steps_in (after_turns (after_turns old xs) ys) zs;
       split =
           ap (steps_in old) e ∙ steps_in-append old xs (ys ++ zs) ∙
-              ap (λ (l : List ℕ). steps_in old xs ++ l) (
-                steps_in-append (after_turns old xs) ys zs ∙ ap (λ (l : List ℕ). l ++ steps_in (after_turns (after_turns old xs) ys) zs) b.split ∙
-                    append_assoc b.first b.rest (steps_in (after_turns (after_turns old xs) ys) zs)
-              ) ∙
-              sym (append_assoc (steps_in old xs) b.first (b.rest ++ steps_in (after_turns (after_turns old xs) ys) zs));
+          ap (λ (l : List ℕ). steps_in old xs ++ l) (
+          steps_in-append (after_turns old xs) ys zs ∙ ap (λ (l : List ℕ). l ++ steps_in (after_turns (after_turns old xs) ys) zs) b.split ∙
+          append_assoc b.first b.rest (steps_in (after_turns (after_turns old xs) ys) zs)
+          ) ∙
+          sym (append_assoc (steps_in old xs) b.first (b.rest ++ steps_in (after_turns (after_turns old xs) ys) zs));
       left = b.left ∙ ap (λ (l : List ℕ). record old { taken = l }) (append_assoc old.taken (steps_in old xs) b.first);
     }
 

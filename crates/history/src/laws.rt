@@ -6,5 +6,4 @@ ghost use Rattle.history.specs.Histories.{RoundsAreWhole, FollowsAreWhole};
 pub fn history_law()
     ensures rounds { RoundsAreWhole }
     ensures follow { FollowsAreWhole }
-{
-}
+{}

@@ -8,3 +8,6 @@ mod seat;
 
 pub use laws::history_law;
 pub use plain::{Plain, Stepped};
+
+#[cfg(test)]
+mod tests;

@@ -127,11 +127,7 @@ impl Seat {
     }
 
     // How the thread ended, and what it did.
-    pub(crate) fn into_report(
-        self,
-        program: &Program,
-        limits: &Limits,
-    ) -> Result<RunReport, Memory>
+    pub(crate) fn into_report(self, program: &Program, limits: &Limits) -> Result<RunReport, Memory>
         requires thread { self.core.thread < length program.now.threads }
         requires ended { IsSome (option_and_then end_of (run_core program.now limits.now self).pending) }
         ensures { IfOk result (λ report. report ≡ report_of (run_core program.now limits.now self)) }

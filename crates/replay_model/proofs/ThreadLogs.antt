@@ -185,4 +185,3 @@ thread_log-stands steps entry c =
           first = subst (λ (n : ℕ). saw (word_of (nth steps k).want) cell.tag (nth steps n) ≡ true) x (saw-from (nth steps k) cell q);
           last = subst (λ (n : ℕ). saw (word_of (nth steps k).want) cell.tag (nth steps n) ≡ true) y sj;
         }
-
