@@ -1,0 +1,9 @@
+pub mod Words
+pub mod Said
+pub mod Statuses
+pub mod Loading
+pub mod Printing
+pub mod Reading
+pub mod Playing
+pub mod Commands
+pub mod Ends

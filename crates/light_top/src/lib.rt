@@ -1,2 +1,16 @@
 //! The commands, over any store and any sink.
 #![tactic(auto)]
+
+mod load;
+mod print;
+mod read;
+mod run;
+mod status;
+mod top;
+mod words;
+
+pub use status::{Status, status_text};
+pub use top::light;
+
+#[cfg(test)]
+mod tests;

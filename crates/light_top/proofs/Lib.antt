@@ -1,0 +1,4 @@
+pub mod PrintedFront
+pub mod Numbers
+pub mod Ending
+pub mod Standing

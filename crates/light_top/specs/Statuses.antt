@@ -1,0 +1,36 @@
+-- Statuses: their numbers and their lines.
+use Rattle.std.specs.Prelude.{ℕ, List, [], ◌∷◌, ◌++◌, codes, Result, Ok, Err}
+use Rattle.std.specs.Fmt.{decimal}
+use Rattle.machine.specs.Faults.{number_of_kind}
+use Rattle.light_top.specs.declared.status.Status.{Status}
+use Rattle.light_top.specs.declared.status.Status.TheVariants as status
+
+-- the number with which the program ends
+abbrev pub code_of : Status → ℕ
+code_of status.Ok = 0
+code_of status.Usage = 2
+code_of status.StoreFault = 3
+code_of (status.TooLong taken) = 4
+code_of (status.ImageRefused fault) = 5
+code_of status.SinkFault = 14
+code_of status.Memory = 70
+
+-- an image was refused: kind K thread T at A
+abbrev pub refusal_line : ℕ → ℕ → ℕ → List ℕ
+refusal_line kind thread at =
+    codes "light: image refused" ++ (codes " kind " ++ decimal kind) ++ (codes " thread " ++ decimal thread) ++ (codes " at " ++ decimal at) ++ 10 ∷ []
+
+-- what is told of a status
+abbrev pub status_line : Status → List ℕ
+status_line status.Ok = []
+status_line status.Usage = codes "light: usage" ++ 10 ∷ []
+status_line status.StoreFault = codes "light: store fault" ++ 10 ∷ []
+status_line (status.TooLong taken) = codes "light: too long" ++ 10 ∷ []
+status_line (status.ImageRefused fault) = refusal_line (number_of_kind fault.kind) fault.thread fault.at
+status_line status.SinkFault = codes "light: output fault" ++ 10 ∷ []
+status_line status.Memory = codes "light: out of memory" ++ 10 ∷ []
+
+-- the status of a command that was done, or refused
+abbrev pub status_of : {T : Type 0} → Result T Status → Status
+status_of (Ok _) = status.Ok
+status_of (Err s) = s

@@ -1,0 +1,96 @@
+// How a command ends, as a number and as a line of text.
+ghost use Rattle.std.specs.Prelude.{◌≡◌, IfOk, OnOk, ◌++◌, decimal};
+ghost use Rattle.light_top.specs.Statuses.{code_of, status_line, refusal_line};
+
+use light_base::{Memory, put_decimal};
+use machine::ImageFault;
+use std::alloc::Global;
+
+#[derive(Clone, Copy, Debug, PartialEq, Eq)]
+pub enum Status {
+    /// The command was done.
+    Ok,
+    /// The words are no command.
+    Usage,
+    /// The store counted a fault.
+    StoreFault,
+    /// A file has more bytes than are loaded, which is one less than `taken`.
+    TooLong { taken: u64 },
+    /// The bytes are no image, and this is the first fault.
+    ImageRefused(ImageFault),
+    /// The sink counted a fault.
+    SinkFault,
+    /// A request for memory was refused.
+    Memory,
+}
+
+impl Status {
+    /// The status with which the program ends.
+    pub fn code(&self) -> u8
+        ensures { result ≡ code_of self.now }
+    {
+        match self {
+            Status::Ok => 0,
+            Status::Usage => 2,
+            Status::StoreFault => 3,
+            Status::TooLong { .. } => 4,
+            Status::ImageRefused(_) => 5,
+            Status::SinkFault => 14,
+            Status::Memory => 70,
+        }
+    }
+}
+
+impl From<Memory> for Status {
+    ghost use Rattle.light_top.specs.declared.status.Status.TheVariants.{Memory};
+
+    ghost from_gives = { λ _ status. status ≡ Memory };
+
+    fn from(_: Memory) -> Status {
+        Status::Memory
+    }
+}
+
+// Appends a name and its number.
+fn put_field(text: &mut Vec<u8>, name: &[u8], n: u64) -> Result<(), Memory>
+    ensures { OnOk result (text.new.items ≡ text.old.items ++ (name.now ++ decimal n)) }
+{
+    text.extend_from_slice(name)?;
+    put_decimal(text, n)
+}
+
+fn put_refusal(text: &mut Vec<u8>, kind: u64, thread: u64, at: u64) -> Result<(), Memory>
+    ensures { OnOk result (text.new.items ≡ text.old.items ++ refusal_line kind thread at) }
+{
+    text.extend_from_slice(b"light: image refused")?;
+    put_field(text, b" kind ", kind)?;
+    put_field(text, b" thread ", thread)?;
+    put_field(text, b" at ", at)?;
+    text.push(b'\n')?;
+    Ok(())
+}
+
+/// The line that tells of a status, with its line feed. Of `Ok` nothing is told.
+pub fn status_text(alloc: Global, status: &Status) -> Result<Vec<u8>, Memory>
+    ensures { IfOk result (λ text. text.items ≡ status_line status.now) }
+{
+    let mut text = Vec::new(alloc);
+    match status {
+        Status::Ok => {}
+        Status::Usage => text.extend_from_slice(b"light: usage\n")?,
+        Status::StoreFault => text.extend_from_slice(b"light: store fault\n")?,
+        Status::TooLong { .. } => text.extend_from_slice(b"light: too long\n")?,
+        Status::ImageRefused(fault) => {
+            let kind = u64::from(fault.kind.code());
+            put_refusal(
+                &mut text,
+                kind,
+                u64::from(fault.thread),
+                u64::from(fault.at),
+            )?
+        }
+        Status::SinkFault => text.extend_from_slice(b"light: output fault\n")?,
+        Status::Memory => text.extend_from_slice(b"light: out of memory\n")?,
+    }
+    Ok(text)
+}

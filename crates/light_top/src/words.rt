@@ -1,0 +1,71 @@
+// The words of the command line.
+ghost use Rattle.std.specs.Prelude.{◌≡◌, ◌<◌, ◌^◌, Option, option_map, None, Some};
+ghost use Rattle.light_top.specs.Words.{is_plain, number_of, limits_of, texts, run_of, request_of};
+ghost use Rattle.light_top.specs.Said.{said};
+
+use machine::Limits;
+
+/// A command with its words read.
+#[derive(Clone, Copy)]
+pub enum Command<'a> {
+    /// Plays the program of an image by turns.
+    Run { image: &'a str, limits: Limits },
+}
+
+// Whether a text may be that of a number: it has no sign, and a zero in front stands alone.
+fn is_plain(word: &[u8]) -> bool
+    ensures { result ≡ is_plain word.now }
+{
+    match word {
+        [] => false,
+        [c] => *c != b'+',
+        [c, _, ..] => *c != b'+' && *c != b'0',
+    }
+}
+
+/// A decimal number with no sign and no leading zero, of at most `most`.
+fn number(word: &str, most: u32) -> Option<u32>
+    ensures { result ≡ number_of most word.now }
+{
+    if !is_plain(word.as_bytes()) {
+        return None;
+    }
+    match word.parse::<u32>() {
+        Ok(n) => { if n <= most { Some(n) } else { None } }
+        Err(_) => None,
+    }
+}
+
+fn limits(steps: &str, instr: &str, entries: &str) -> Option<Limits>
+    ensures { result ≡ limits_of steps.now instr.now entries.now }
+{
+    let steps = number(steps, 268_435_455)?;
+    let instr = number(instr, 1_073_741_824)?;
+    let entries = number(entries, 16_384)?;
+    Limits::new(steps, instr, entries)
+}
+
+fn run<'a>(words: &'a [String]) -> Option<Command<'a>>
+    ensures { option_map said result ≡ run_of (texts words.now) }
+{
+    match words {
+        [image, steps, instr, entries] if !image.is_empty() => Some(Command::Run {
+            image: image.as_str(),
+            limits: limits(steps.as_str(), instr.as_str(), entries.as_str())?,
+        }),
+        _ => None,
+    }
+}
+
+/// The command that the words are, if they are one.
+pub fn read_command<'a>(words: &'a [String]) -> Option<Command<'a>>
+    ensures { option_map said result ≡ request_of (texts words.now) }
+{
+    match words {
+        [verb, rest @ ..] => match verb.as_str() {
+            "run" => run(rest),
+            _ => None,
+        },
+        [] => None,
+    }
+}

@@ -1,0 +1,88 @@
+// One function for each kind of line. After `Memory` the text has some front of the line more.
+ghost use Rattle.std.specs.Prelude.{◌≡◌, ◌++◌, [], OnOk};
+ghost use Rattle.std.specs.List.{flat_map};
+ghost use Rattle.transcript.specs.Transcripts.{end_text, thread_line, out_line, word_line, word_lines};
+
+use light_base::{Memory, put_decimal};
+use replay_model::End;
+
+fn put_end(text: &mut Vec<u8>, end: End) -> Result<(), Memory>
+    ensures { OnOk result (text.new.items ≡ text.old.items ++ end_text end) }
+{
+    match end {
+        End::Halted => text.extend_from_slice(b"halted")?,
+        End::InstrSpent => text.extend_from_slice(b"instr-spent")?,
+        End::BadAddress(address) => {
+            text.extend_from_slice(b"bad-address ")?;
+            put_decimal(text, u64::from(address))?;
+        }
+        End::StepsSpent => text.extend_from_slice(b"steps-spent")?,
+        End::EntriesFull => text.extend_from_slice(b"entries-full")?,
+        End::OutputFull => text.extend_from_slice(b"output-full")?,
+    }
+    Ok(())
+}
+
+fn put_output(text: &mut Vec<u8>, value: u32) -> Result<(), Memory>
+    ensures { OnOk result (text.new.items ≡ text.old.items ++ out_line value) }
+{
+    text.extend_from_slice(b"out ")?;
+    put_decimal(text, u64::from(value))?;
+    text.push(b'\n')?;
+    Ok(())
+}
+
+/// Appends a line for each value that a thread put out.
+pub fn put_outputs(text: &mut Vec<u8>, output: &[u32]) -> Result<(), Memory>
+    ensures { OnOk result (text.new.items ≡ text.old.items ++ flat_map out_line output.now) }
+{
+    for value in output {
+        put_output(text, *value)?;
+    }
+    Ok(())
+}
+
+fn put_word(text: &mut Vec<u8>, word: usize, value: u32) -> Result<(), Memory>
+    ensures { OnOk result (text.new.items ≡ text.old.items ++ word_line word value) }
+{
+    text.extend_from_slice(b"word ")?;
+    put_decimal(text, word as u64)?;
+    text.push(b' ')?;
+    put_decimal(text, u64::from(value))?;
+    text.push(b'\n')?;
+    Ok(())
+}
+
+/// Appends a line for each word whose last value isn't 0.
+pub fn put_words(text: &mut Vec<u8>, finals: &[u32]) -> Result<(), Memory>
+    ensures { OnOk result (text.new.items ≡ text.old.items ++ word_lines 0 finals.now) }
+{
+    for (word, value) in finals.iter().enumerate() {
+        if *value != 0 {
+            put_word(text, word, *value)?;
+        }
+    }
+    Ok(())
+}
+
+/// Appends the line of a thread.
+pub fn put_thread(
+    text: &mut Vec<u8>,
+    thread: usize,
+    end: End,
+    steps: u32,
+    instr: u32,
+) -> Result<(), Memory>
+    ensures { OnOk result (text.new.items ≡ text.old.items ++ thread_line thread (record { end = end; steps = steps; instr = instr; output = [] })) }
+{
+    text.extend_from_slice(b"thread ")?;
+    put_decimal(text, thread as u64)?;
+    text.push(b' ')?;
+    put_end(text, end)?;
+    text.extend_from_slice(b" steps ")?;
+    put_decimal(text, u64::from(steps))?;
+    text.extend_from_slice(b" instr ")?;
+    put_decimal(text, u64::from(instr))?;
+    text.push(b'\n')?;
+    Ok(())
+}
