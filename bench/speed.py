@@ -36,8 +36,8 @@ COPIER = [("load", 1, 0, 0), ("store", 1, 0, 1), ("jeq", 0, 0, 0)]
 
 CASES = [
     ("10,000,000 local instructions, one thread", [0], [COUNTER], (0, 10_000_000, 0), 10_000_000),
-    ("1,000,000 memory steps, one thread", [7, 0], [COPIER], (1_000_000, 1_073_741_824, 1), 1_000_000),
-    ("1,000,000 memory steps, ten threads", [7, 0], [COPIER] * 10, (100_000, 1_073_741_824, 1), 1_000_000),
+    ("1,000,000 memory steps, one thread", [7, 0], [COPIER], (1_000_000, 1_073_741_824, 2), 1_000_000),
+    ("1,000,000 memory steps, ten threads", [7, 0], [COPIER] * 10, (100_000, 1_073_741_824, 2), 1_000_000),
 ]
 
 

@@ -1,5 +1,5 @@
 // A store over real files. It tells nothing of them.
-ghost use Rattle.std.specs.Prelude.{None, false, ◌≡◌, ◌≤◌, length, IfOk, IfErr, ◌+◌};
+ghost use Rattle.std.specs.Prelude.{None, false, ◌≡◌, ◌≤◌, ◌<◌, ◌^◌, length, IfOk, IfErr, ◌+◌};
 ghost use Rattle.light_cli.specs.Reading.{ReadFails};
 
 use light_base::{Store, StoreFault};
@@ -13,6 +13,7 @@ use std::rt::Files;
 pub struct FileStore<'a, R> {
     rt: &'a R,
     faults: u64,
+    ghost counted: { faults < 2 ^ 64 },
 }
 
 impl<'a, R: Files> FileStore<'a, R> {

@@ -1,5 +1,5 @@
 // A sink over any writer. It tells nothing of the bytes.
-ghost use Rattle.std.specs.Prelude.{None};
+ghost use Rattle.std.specs.Prelude.{None, ◌<◌, ◌≤◌, ◌^◌, length, IfSome};
 
 use light_base::{Sink, SinkFault};
 use std::io::{ErrorKind, Write};
@@ -9,6 +9,7 @@ use std::io::{ErrorKind, Write};
 pub struct StdSink<W> {
     writer: W,
     faults: u64,
+    ghost counted: { faults < 2 ^ 64 },
 }
 
 impl<W> StdSink<W> {
@@ -17,25 +18,36 @@ impl<W> StdSink<W> {
     }
 }
 
+// One write of the piece, asked again where a signal came between. None where the writer fails, or takes no byte.
+fn write_some<W: Write>(writer: &mut W, bytes: &[u8]) -> Option<usize>
+    ensures { IfSome result (λ count. (1 ≤ count) × (count ≤ length bytes.now)) }
+{
+    for _ in 0..u64::MAX {
+        match writer.write(bytes) {
+            Ok(0) => return None,
+            Ok(count) => return Some(count),
+            Err(error) => {
+                if error.kind() != ErrorKind::Interrupted {
+                    return None;
+                }
+            }
+        }
+    }
+    None
+}
+
 impl<W: Write> Sink for StdSink<W> {
     ghost taken = { λ _. None };
 
     ghost faults = { λ s. s.faults };
 
-    /// One write of the piece, asked again where a signal came between. A write that takes no byte is a failure.
     fn put(&mut self, bytes: &[u8]) -> Result<usize, SinkFault> {
-        for _ in 0..u64::MAX {
-            match self.writer.write(bytes) {
-                Ok(0) => break,
-                Ok(count) => return Ok(count),
-                Err(error) => {
-                    if error.kind() != ErrorKind::Interrupted {
-                        break;
-                    }
-                }
+        match write_some(&mut self.writer, bytes) {
+            Some(count) => Ok(count),
+            None => {
+                self.faults = self.faults.saturating_add(1);
+                Err(SinkFault::Failed)
             }
         }
-        self.faults = self.faults.saturating_add(1);
-        Err(SinkFault::Failed)
     }
 }
