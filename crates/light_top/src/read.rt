@@ -14,10 +14,12 @@ pub fn read_program(alloc: Global, bytes: &[u8]) -> Result<Program, Status>
 {
     match read_image(alloc, bytes) {
         Ok(program) => Ok(program),
-        Err(ImageFault {
-            kind: ImageKind::Memory,
-            ..
-        }) => Err(Status::Memory),
+        Err(
+            ImageFault {
+                kind: ImageKind::Memory,
+                ..
+            },
+        ) => Err(Status::Memory),
         Err(fault) => Err(Status::ImageRefused(fault)),
     }
 }
