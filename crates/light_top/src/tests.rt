@@ -153,16 +153,20 @@ fn faults_of_the_sink(rt: HostRuntime) -> Result<(), Fail> {
     Ok(())
 }
 
+// These bytes, and zeros up to this length.
+fn padded(alloc: Global, front: &[u8], len: usize) -> Result<Vec<u8>, AllocError> {
+    let mut bytes = Vec::from_slice(alloc, front)?;
+    bytes.resize(len, 0)?;
+    Ok(bytes)
+}
+
 #[test]
 fn bytes_that_are_refused(rt: HostRuntime) -> Result<(), Fail> {
     let alloc = rt.alloc();
     let mut store = MemStore::new(alloc, Vec::new(alloc));
     let mut out = MemSink::new(alloc, 5, Vec::new(alloc));
-    let mut bytes = vec![in alloc; 0u8; 8_388_609]?;
-    store.put_file("long", &bytes)?;
-    bytes.truncate(8_388_608);
-    bytes[..21].copy_from_slice(&SMALLEST);
-    store.put_file("more", &bytes)?;
+    store.put_file("long", &padded(alloc, b"", 8_388_609)?)?;
+    store.put_file("more", &padded(alloc, &SMALLEST, 8_388_608)?)?;
     store.put_file("less", &SMALLEST[..20])?;
     for (line, status) in [
         ("run long 1 1 1", Status::TooLong { taken: 8_388_609 }),
