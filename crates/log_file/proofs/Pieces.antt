@@ -49,8 +49,16 @@ length-spelling log digest =
     let headers = flat_map header_bytes log.threads in
     let tags = flat_map tag_bytes log.lasts in
     let entries = flat_map entries_bytes log.threads in
-    omega (arith, length-head log digest, length-headers log.threads, length-tags log.lasts, length-all_entries log.threads,
-      length-append ((head_bytes log ++ headers) ++ tags) entries, length-append (head_bytes log ++ headers) tags, length-append (head_bytes log) headers)
+    omega (
+      arith,
+      length-head log digest,
+      length-headers log.threads,
+      length-tags log.lasts,
+      length-all_entries log.threads,
+      length-append ((head_bytes log ++ headers) ++ tags) entries,
+      length-append (head_bytes log ++ headers) tags,
+      length-append (head_bytes log) headers,
+    )
 
 -- four pieces, written one after the other
 pub written : (log : Log) (one two three four : List ℕ) → one ≡ head_bytes log → two ≡ one ++ flat_map header_bytes log.threads → three ≡ two ++ flat_map tag_bytes log.lasts →
