@@ -1,9 +1,9 @@
 -- The log of accesses is that of the steps they tell of, and what one more access does to it.
-use Rattle.std.proofs.Common.{◌≡◌, ℕ, zero, suc, ◌+◌, ◌-◌, ◌<◌, ◌≤◌, Bool, true, false, cond, eqb, List, [], ◌∷◌, ◌++◌, length, take, get_or, refl, sym, ◌∙◌, ap, subst, arith, length-append}
+use Rattle.std.proofs.Common.{◌≡◌, ℕ, zero, suc, ◌+◌, ◌-◌, ◌<◌, cond, eqb, List, [], ◌∷◌, ◌++◌, length, take, get_or, refl, sym, ◌∙◌, ap, subst, arith, length-append}
 use Rattle.std.specs.Prelude.{Option, Some, None}
 use Rattle.std.proofs.lemmas.List.{append_assoc, append-nil, take_more}
 use Rattle.replay_model.specs.declared.Want.TheVariants.{Load}
-use Rattle.replay_model.specs.Steps.{Tag, Cell, Step, word_of, access_of, accesses_from}
+use Rattle.replay_model.specs.Steps.{Tag, Cell, Step, word_of, accesses_from}
 use Rattle.replay_model.specs.Threads.{no_step}
 use Rattle.replay_model.specs.ThreadLogs.{is_sight, saw, least, greatest, numbers, entry_at, entries_from, thread_log}
 use Rattle.replay_model.specs.MoreReads.{with_read}

@@ -1,15 +1,15 @@
 -- Entries after one more read, where a look-up finds them.
 use Rattle.std.proofs.Common.{◌≡◌, ℕ, ◌+◌, ◌<◌, ◌≤◌, Bool, true, false, cond, eqb, List, [], ◌∷◌, ◌++◌, length, get_or, set, map, refl, sym, ◌∙◌, ap, subst, arith, inl, inr, ◌⊎◌, length-append}
-use Rattle.std.specs.Prelude.{◌≢◌, Option, Some, None, ◌&&◌}
+use Rattle.std.specs.Prelude.{◌≢◌, Option, Some, None}
 use Rattle.std.specs.Option.{option_eq}
 use Rattle.std.specs.List.{list_any}
 use Rattle.std.proofs.lemmas.List.{append-nil, same_lists, length-map, get_or-map, get_or-set_same, get_or-set_other, get_or_append_left, get_or_push, get_or_default}
 use Rattle.std.proofs.Math.ListN.{length-set}
 use Rattle.std.proofs.lemmas.List.Folds.{list_any_at}
-use Rattle.std.proofs.lemmas.Bool.{cases_Bool, cases_eq, cases_lt, eq-eqb, eqb-true, ne_eqb, and_from, and_parts, cond-true, cond-false}
+use Rattle.std.proofs.lemmas.Bool.{cases_Bool, cases_eq, cases_lt, eq-eqb, eqb-true, and_from, and_parts, cond-true, cond-false}
 use Rattle.replay_model.specs.Steps.{Event, Tag, same_event, same_tag}
 use Rattle.replay_model.specs.MoreReads.{is_entry_for, touched, with_read}
-use Rattle.replay_model.proofs.Tags.{same_event-true, same_event-same, same_tag-true, same_tag-same, any-element, element-any}
+use Rattle.replay_model.proofs.Tags.{same_event-true, same_event-same, same_tag-true, same_tag-same, any-element}
 use Rattle.dep_log.specs.declared.entries.Sighting.{Sighting}
 use Rattle.dep_log.specs.AccessLogs.{Entry}
 use Rattle.dep_log.specs.Places.{FindsEntries, same_sighting, sighting_of}

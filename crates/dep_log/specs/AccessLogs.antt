@@ -1,5 +1,5 @@
 -- The log of a thread's accesses: which write each of its reads saw. It says of accesses, which carry their numbers, what the log of a thread says of its steps.
-use Rattle.std.specs.Prelude.{ℕ, Bool, cond, eqb, max, Option, Some, None, List, [], ◌∷◌, ◌++◌, ◌<◌}
+use Rattle.std.specs.Prelude.{ℕ, cond, eqb, Option, Some, None, List, [], ◌∷◌, ◌++◌, ◌<◌}
 pub use Rattle.replay_model.specs.declared.Access.{Access}
 use Rattle.replay_model.specs.Steps.{Tag, Cell}
 pub use Rattle.replay_model.specs.declared.Entry.{Entry}

@@ -1,5 +1,5 @@
 -- The log of a run, as a program holds it.
-use Rattle.std.specs.Prelude.{ℕ, ◌≤◌, List, length, All}
+use Rattle.std.specs.Prelude.{◌≤◌, length, All}
 pub use Rattle.replay_model.specs.Logs.{Limits, ThreadLog, Log}
 
 -- numbers of threads, of words and of entries that a log may have

@@ -4,7 +4,7 @@ use Rattle.std.specs.HashMap.{get}
 use Rattle.replay_model.specs.Steps.{Tag}
 use Rattle.dep_log.specs.declared.entries.Sighting.{Sighting}
 use Rattle.dep_log.specs.AccessLogs.{Entry}
-use Rattle.dep_log.specs.Places.{FindsEntries, same_sighting}
+use Rattle.dep_log.specs.Places.{same_sighting}
 use Rattle.dep_log.proofs.Places.{pair, with_read-found, with_read-new, FindsEntries-set, FindsEntries-push}
 use Rattle.dep_log.proofs.entries.add_read.Goals as goal
 

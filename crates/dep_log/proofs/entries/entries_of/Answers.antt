@@ -1,12 +1,12 @@
 use Rattle.std.proofs.Common.{◌≡◌, ◌∙◌, sym, ap, refl, Vec, Global}
-use Rattle.std.specs.Prelude.{Option, Some, None, List}
+use Rattle.std.specs.Prelude.{Option, Some, None}
 use Rattle.std.specs.HashMap.{get}
 use Rattle.std.specs.Map.{lookup}
 use Rattle.std.proofs.lemmas.List.{take_all}
 use Rattle.replay_model.specs.Steps.{Cell}
 use Rattle.dep_log.specs.declared.entries.Sighting.{Sighting}
 use Rattle.dep_log.specs.AccessLogs.{Access, Entry, access_log, with_found, noted}
-use Rattle.dep_log.specs.Places.{FindsEntries, same_sighting}
+use Rattle.dep_log.specs.Places.{same_sighting}
 use Rattle.dep_log.proofs.AccessLogs.{access_log-take, access_log-accesses_from}
 use Rattle.dep_log.proofs.Places.{FindsEntries-none}
 use Rattle.dep_log.proofs.entries.entries_of.Goals as goal

@@ -1,8 +1,8 @@
-use Rattle.std.proofs.Common.{◌≡◌, List, ℕ, length, ◌++◌, ◌∙◌, ap}
+use Rattle.std.proofs.Common.{List, ℕ, length, ◌++◌, ◌∙◌, ap}
 use Rattle.std.specs.List.{flat_map}
 use Rattle.light_base.specs.declared.tag.Tag.{Tag}
 use Rattle.replay_model.specs.Logs.{ThreadLog}
-use Rattle.log_file.specs.Spelling.{head_bytes, header_bytes, tag_bytes, entries_bytes, spelling}
+use Rattle.log_file.specs.Spelling.{head_bytes, header_bytes, tag_bytes, entries_bytes}
 use Rattle.log_file.proofs.Pieces.{written, length-spelling}
 use Rattle.log_file.proofs.write.write_log.Goals as goal
 
