@@ -5,6 +5,7 @@ use Rattle.light_base.specs.declared.tag.Cell.{Cell}
 use Rattle.replay_model.specs.Steps.{Step}
 use Rattle.replay_model.specs.Threads.{Threads}
 use Rattle.replay_model.specs.ThreadLogs.{is_full}
+use Rattle.replay_model.specs.RunLogs.{Instructions}
 use Rattle.replay_model.specs.Histories.{World, steps_of, opening, play, rounds, follow}
 use Rattle.machine.specs.Programs.{ProgramValue, LimitsValue}
 use Rattle.machine.specs.Cores.{State, Report, first_state, settled, took, pending_want, report_of}
@@ -22,6 +23,10 @@ state_after p limits t steps = state_from p limits [] (first_state t) steps
 -- what each thread of the program wants after its steps
 abbrev pub threads_of : ProgramValue → LimitsValue → Threads
 threads_of p limits t steps = pending_want (state_after p limits t steps)
+
+-- how many instructions each thread of the program has finished after its steps
+abbrev pub instructions_of : ProgramValue → LimitsValue → Instructions
+instructions_of p limits t steps = (state_after p limits t steps).instr
 
 -- before any step
 abbrev pub start_of : ProgramValue → World
