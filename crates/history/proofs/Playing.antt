@@ -1,12 +1,13 @@
 -- The state of a plain machine, after a thread ran and after it took a step.
 use Rattle.std.proofs.Common.{◌≡◌, ℕ, ◌+◌, ◌<◌, ◌≤◌, Bool, true, false, List, [], ◌∷◌, ◌++◌, length, refl, sym, ◌∙◌, ap, subst, arith, inl, inr, ◌⊎◌}
 use Rattle.std.specs.Prelude.{Option, Some, None, slice_index_or, slice_set}
-use Rattle.std.proofs.lemmas.List.{length-set, get_or-set_same, get_or-set_other, length-map, length-replicate}
+use Rattle.std.proofs.lemmas.List.{length-set, get_or-set_same, get_or-set_other, get_or_append_left, length_push, length-map, length-replicate}
+use Rattle.std.proofs.Math.Seq.{get_or-append_seam}
 use Rattle.std.proofs.lemmas.Bool.{cases_eq, cases_lt}
 use Rattle.replay_model.specs.declared.Access.{Access}
 use Rattle.replay_model.specs.declared.Want.{Want}
-use Rattle.replay_model.specs.Steps.{Event, Cell, Step, word_of, wrote, has_ended, found_in, put}
-use Rattle.replay_model.specs.Histories.{World, steps_of, step_in, play, move, keep_all}
+use Rattle.replay_model.specs.Steps.{Event, Cell, Step, word_of, wrote, has_ended, found_in, put, initial_cells}
+use Rattle.replay_model.specs.Histories.{World, steps_of, step_in, play, move, keep_all, IsLegal}
 use Rattle.replay_model.proofs.Moves.{move_shape, set_here, set_there, each_thread, opening_steps}
 use Rattle.replay_model.proofs.Plays.{play-push, play_count, play_memory, legal-push}
 use Rattle.machine.specs.Programs.{ProgramValue, LimitsValue, IsProgram, AreLimits}
@@ -14,9 +15,9 @@ use Rattle.machine.specs.Cores.{State, settled}
 use Rattle.machine.specs.Runs.{state_after, threads_of, start_of}
 use Rattle.machine.proofs.Runs.{stays_within, ends_within, keeps_thread}
 use Rattle.history.specs.declared.seat.Seat.{Seat}
-use Rattle.history.specs.Played.{Played, threads_in, world_of, thread_steps, wanted_by, next_step, next_access, after_step}
-use Rattle.history.specs.Playing.{IsSeat, IsPlaying, Takes, Keeps}
-use Rattle.history.proofs.Seats.{run_core, run_core-settled, ran-wants, ran-seat, taken-seat, kept-seat}
+use Rattle.history.specs.Played.{Played, unplayed, threads_in, world_of, thread_steps, wanted_by, next_step, next_access, after_step}
+use Rattle.history.specs.Playing.{run_core, IsFresh, AreFresh, IsSeat, IsPlaying, Takes, Keeps}
+use Rattle.history.proofs.Seats.{run_core-settled, ran-wants, ran-seat, taken-seat, kept-seat, fresh-seat}
 
 -- a play keeps the number of threads and of words
 pub threads_count : (played : Played) → length (world_of played).threads ≡ length played.program.threads
@@ -46,7 +47,6 @@ pub playing-same : (played : Played) (cells : List Cell) (seats : List Seat) (t 
     IsSeat played.program played.limits t (thread_steps played t) new → IsPlaying played cells (slice_set seats t new)
 playing-same played cells seats t new is l here = record {
   rules = is.rules;
-  bounds = is.bounds;
   legal = is.legal;
   memory = is.memory;
   counted = length-set seats t new ∙ is.counted;
@@ -90,7 +90,6 @@ pub playing-step : (played : Played) (cells : List Cell) (seats : List Seat) (t 
     (slice_set seats t new)
 playing-step played cells seats t new is l lives here = record {
   rules = is.rules;
-  bounds = is.bounds;
   legal = legal-push (threads_in played) played.taken t (start_of played.program) is.legal lives;
   memory =
       ap (λ (m : List Cell). put m (word_of (wanted_by played t)) (record { thread = t; step = length (thread_steps played t) + 1 }) (wrote (wanted_by played t) (found_in m (wanted_by played t)))) is.memory ∙
@@ -99,4 +98,31 @@ playing-step played cells seats t new is l lives here = record {
   each = each_seat played (thread_steps (after_step played t)) seats t new l
       (subst (λ (s : List Step). IsSeat played.program played.limits t s new) (sym (steps-step played t (let c = is.counted in omega (arith, c, l)) lives)) here)
       (λ u seat n ul. subst (λ (s : List Step). IsSeat played.program played.limits u s (slice_index_or seats u seat)) (sym (steps-other played t u lives n)) (is.each u seat ul));
+}
+
+-- one more thread at its start
+pub fresh-push : (count : ℕ) (seats : List Seat) (seat : Seat) → AreFresh count seats → IsFresh count seat → AreFresh (count + 1) (seats ++ seat ∷ [])
+fresh-push count seats new is here = record {
+  counted = length_push seats new ∙ ap (λ (n : ℕ). n + 1) is.counted;
+  each = λ t seat l. go t seat l (cases_lt t count);
+}
+  where
+    go : (t : ℕ) (seat : Seat) → t < count + 1 → (t < count) ⊎ (count ≤ t) → IsFresh t (slice_index_or (seats ++ new ∷ []) t seat)
+    go t seat l (inl b) = subst (IsFresh t) (sym (get_or_append_left seats (new ∷ []) seat t (let c = is.counted in omega (arith, c, b)))) (is.each t seat b)
+    go t seat l (inr g) =
+        let e : count ≡ t = omega arith in
+        let at : slice_index_or (seats ++ new ∷ []) count seat ≡ new = ap (λ (n : ℕ). slice_index_or (seats ++ new ∷ []) n seat) (sym is.counted) ∙ get_or-append_seam seats new [] seat in
+        let P : ℕ → Type 0 = λ n. IsFresh n (slice_index_or (seats ++ new ∷ []) n seat) in
+        subst P e (subst (IsFresh count) (sym at) here)
+
+-- the state before any step
+pub playing-new : (p : ProgramValue) (limits : LimitsValue) (seats : List Seat) → IsProgram p → AreFresh (length p.threads) seats → IsPlaying (unplayed p limits) (initial_cells p.words) seats
+unfolding play IsLegal
+playing-new p limits seats rules fresh = record {
+  rules = rules;
+  legal = tt;
+  memory = refl;
+  counted = fresh.counted;
+  each = λ t seat l. subst (λ (s : List Step). IsSeat p limits t s (slice_index_or seats t seat)) (sym (opening_steps (length p.threads) t))
+      (fresh-seat p limits t (slice_index_or seats t seat) (fresh.each t seat (let c = fresh.counted in omega (arith, c, l))));
 }

@@ -16,12 +16,9 @@ use Rattle.machine.proofs.Runs.{counts_steps, after_step, settled_pending, settl
 use Rattle.history.specs.declared.seat.Seat.{Seat}
 use Rattle.history.specs.declared.seat.Sighting.{Sighting}
 use Rattle.history.specs.Sightings.{has_pair, has_seen, new_pairs, Sees}
-use Rattle.history.specs.Playing.{IsSeat, Takes, Keeps}
+use Rattle.history.specs.Playing.{run_core, IsFresh, IsSeat, Takes, Keeps}
 
--- the core after it ran up to its next step or its end
-abbrev pub run_core : ProgramValue → LimitsValue → Seat → State
-run_core p limits seat = settled p limits (nat_le limits.entries (length seat.seen.keys)) seat.core
-
+-- it comes to what its steps made of it
 pub run_core-settled : (p : ProgramValue) (limits : LimitsValue) (t : ℕ) (steps : List Step) (seat : Seat) → IsSeat p limits t steps seat →
     run_core p limits seat ≡ state_after p limits t steps
 run_core-settled p limits t steps seat is = ap (λ (n : ℕ). settled p limits (nat_le limits.entries n) seat.core) is.entries ∙ is.core
@@ -87,4 +84,15 @@ kept-seat p limits t steps old new is keeps = record {
   accesses = keeps.accesses ∙ is.accesses;
   seen = λ word tag. ap (has_pair word tag) keeps.seen ∙ is.seen word tag;
   entries = ap length keeps.seen ∙ is.entries;
+}
+
+-- a thread at its start has taken no step
+pub fresh-seat : (p : ProgramValue) (limits : LimitsValue) (t : ℕ) (seat : Seat) → IsFresh t seat → IsSeat p limits t [] seat
+unfolding thread_log
+fresh-seat p limits t seat is = record {
+  core = ap (settled p limits (is_full limits.entries [])) is.core;
+  thread = ap (λ (s : State). s.thread) is.core;
+  accesses = is.accesses;
+  seen = λ word tag. ap (has_pair word tag) is.seen;
+  entries = ap length is.seen;
 }

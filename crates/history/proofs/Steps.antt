@@ -9,6 +9,7 @@ use Rattle.replay_model.specs.declared.Want.{Want}
 use Rattle.replay_model.specs.declared.Want.TheVariants as want
 use Rattle.replay_model.specs.Steps.{Event, Cell, Step, word_of, wrote, has_ended, found_in, put, access_of}
 use Rattle.replay_model.specs.Histories.{step_in}
+use Rattle.machine.specs.Programs.{AreLimits}
 use Rattle.machine.specs.Cores.{State}
 use Rattle.machine.specs.Runs.{state_after}
 use Rattle.machine.proofs.Runs.{stays_within, keeps_thread, counts_steps}
@@ -16,13 +17,14 @@ use Rattle.history.specs.declared.seat.Seat.{Seat}
 use Rattle.history.specs.declared.plain.Stepped.TheVariants.{Took, Ended}
 use Rattle.history.specs.Stepping.{IsStep}
 use Rattle.history.specs.Played.{Played, world_of, thread_steps, wanted_by, next_step, next_access, after_step}
-use Rattle.history.specs.Playing.{IsSeat, IsPlaying, Takes, Keeps}
-use Rattle.history.proofs.Seats.{run_core, run_core-settled, ran-wants, ran-seat, taken-seat, kept-seat}
+use Rattle.history.specs.Playing.{run_core, IsSeat, IsPlaying, Takes, Keeps}
+use Rattle.history.proofs.Seats.{run_core-settled, ran-wants, ran-seat, taken-seat, kept-seat}
 use Rattle.history.proofs.Playing.{words_count, playing-same, playing-step, has_room}
 
 -- a thread of the machine ran up to what it wants
 pub record Ran (played : Played) (cells : List Cell) (seats : List Seat) (t : ℕ) (old new : Seat) (wanted : Want) : Type 0 where
   pub is : IsPlaying played cells seats
+  pub bounds : AreLimits played.limits
   pub there : t < length played.program.threads
   pub at : old ≡ slice_index_or seats t old
   pub ran : new ≡ record old { core = run_core played.program played.limits old }
@@ -68,7 +70,7 @@ module _ (played : Played) (cells : List Cell) (seats : List Seat) (t : ℕ) (ol
   pub room_for : has_ended wanted ≡ false → new.core.steps < 268435455
   room_for lives =
       let a = has_room played t (ap has_ended (sym new-wanted) ∙ lives) in
-      let b = r.is.bounds.steps in
+      let b = r.bounds.steps in
       omega (arith, steps_are, a, b)
 
   -- nothing was taken
@@ -127,10 +129,11 @@ lives_from (want.Ended e) n = absurd (n e refl)
 
 -- the facts of a run, as its calls give them
 pub ran-made : (seen played : Played) (cells : List Cell) (seats : List Seat) (place t : ℕ) (old new : Seat) (wanted : Want) → played ≡ seen → t < length seen.program.threads → place ≡ t →
-    IsPlaying played cells seats → old ≡ slice_index_or seats place old → (new ≡ record old { core = run_core played.program played.limits old }) × (new.core.pending ≡ Some wanted) →
+    AreLimits played.limits → IsPlaying played cells seats → old ≡ slice_index_or seats place old → (new ≡ record old { core = run_core played.program played.limits old }) × (new.core.pending ≡ Some wanted) →
     Ran played cells seats place old new wanted
-ran-made seen played cells seats place t old new wanted view l p is at ran = record {
+ran-made seen played cells seats place t old new wanted view l p bounds is at ran = record {
   is = is;
+  bounds = bounds;
   there = subst (λ (x : Played). place < length x.program.threads) (sym view) (omega (arith, l, p));
   at = at;
   ran = ran.0;

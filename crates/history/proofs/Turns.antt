@@ -63,33 +63,43 @@ unfolding history_of
 steps_in-one played t b h = append-nil (cond (has_ended (wanted_by played t)) [] (t ∷ [])) ∙ ap (λ (x : Bool). cond x [] (t ∷ [])) h
 
 -- a step that was taken is a turn
-pub step-took : (old : Played) (t : ℕ) → has_ended (wanted_by old t) ≡ false → after_step old t ≡ after_turns old (t ∷ [])
-step-took old t h = ap (λ (l : List ℕ). record old { taken = old.taken ++ l }) (sym (steps_in-one old t false h))
-
-pub step-ended : (old : Played) (t : ℕ) → has_ended (wanted_by old t) ≡ true → steps_in old (t ∷ []) ≡ []
-step-ended old t h = steps_in-one old t true h
-
 pub step-turn : (old : Played) (t : ℕ) (stepped : Stepped) (new : Played) → IsStep old t stepped new → new ≡ after_turns old (t ∷ [])
-step-turn old t (Took access) new h = h.2 ∙ step-took old t h.0
-step-turn old t (Ended end) new h = h.1 ∙ sym (after_turns-none old (t ∷ []) (step-ended old t (ap has_ended h.0)))
+step-turn old t (Took access) new h = h.2 ∙ ap (λ (l : List ℕ). record old { taken = old.taken ++ l }) (sym (steps_in-one old t false h.0))
+step-turn old t (Ended end) new h = h.1 ∙ sym (after_turns-none old (t ∷ []) (steps_in-one old t true (ap has_ended h.0)))
 
--- the state after one more thread of a round
-pub round-more : (start old new : Played) (t : ℕ) (stepped : Stepped) → old ≡ after_turns start (range_with_len 0 t) → IsStep old t stepped new →
-    new ≡ after_turns start (range_with_len 0 (t + 1))
-round-more start old new t stepped h is =
-    step-turn old t stepped new is ∙ ap (λ (p : Played). after_turns p (t ∷ [])) h ∙ sym (after_turns-append start (range_with_len 0 t) (t ∷ [])) ∙
-    ap (after_turns start) (sym (range-more t))
+-- the turn of a thread that has ended takes no step
+pub step-idle : (old : Played) (t : ℕ) (e : End) (new : Played) → IsStep old t (Ended e) new → steps_in old (t ∷ []) ≡ []
+step-idle old t e new h = steps_in-one old t true (ap has_ended h.0)
 
--- a round that took no step so far, after one more thread that has ended
-pub idle-more : (start old new : Played) (t : ℕ) (e : End) → old ≡ after_turns start (range_with_len 0 t) → IsStep old t (Ended e) new → steps_in start (range_with_len 0 t) ≡ [] →
-    steps_in start (range_with_len 0 (t + 1)) ≡ []
-idle-more start old new t e h is none =
-    ap (steps_in start) (range-more t) ∙ steps_in-append start (range_with_len 0 t) (t ∷ []) ∙ ap (λ (l : List ℕ). l ++ steps_in (after_turns start (range_with_len 0 t)) (t ∷ [])) none ∙
-    ap (λ (p : Played). steps_in p (t ∷ [])) (sym h) ∙ step-ended old t (ap has_ended is.0)
+-- the state after the turns of so many threads of a round, and whether one of them took a step
+pub record IsInRound (start : Played) (t : ℕ) (went : Bool) (now : Played) : Type 0 where
+  pub turns : now ≡ after_turns start (range_with_len 0 t)
+  pub idle : went ≡ false → steps_in start (range_with_len 0 t) ≡ []
+
+pub round-begins : (start : Played) → IsInRound start 0 false start
+round-begins start = record { turns = after_turns-nil start; idle = λ h. steps_in-nil start }
+
+-- after one more turn
+pub round-more : (start old new : Played) (t : ℕ) (went turned now : Bool) → IsInRound start t went old → new ≡ after_turns old (t ∷ []) → (turned ≡ false → steps_in old (t ∷ []) ≡ []) →
+    (now ≡ false → (went ≡ false) × (turned ≡ false)) → IsInRound start (t + 1) now new
+round-more start old new t went turned now is turn quiet both = record {
+  turns =
+      turn ∙ ap (λ (p : Played). after_turns p (t ∷ [])) is.turns ∙ sym (after_turns-append start (range_with_len 0 t) (t ∷ [])) ∙ ap (after_turns start) (sym (range-more t));
+  idle = λ h.
+      ap (steps_in start) (range-more t) ∙ steps_in-append start (range_with_len 0 t) (t ∷ []) ∙
+          ap (λ (l : List ℕ). l ++ steps_in (after_turns start (range_with_len 0 t)) (t ∷ [])) (is.idle (both h).0) ∙
+          ap (λ (p : Played). steps_in p (t ∷ [])) (sym is.turns) ∙ quiet (both h).1;
+}
 
 -- the first of some turns were had
 pub begun-first : (old : Played) (xs ys turns : List ℕ) (new : Played) → turns ≡ xs ++ ys → new ≡ after_turns old xs → HasBegun old turns new
 begun-first old xs ys turns new e h = record { first = steps_in old xs; rest = steps_in (after_turns old xs) ys; split = ap (steps_in old) e ∙ steps_in-append old xs ys; left = h }
+
+-- a round that stopped at a thread
+pub round-begun : (start old new : Played) (t : ℕ) (went : Bool) (count : ℕ) → IsInRound start t went old → t ≤ count → new ≡ old → HasBegun start (range_with_len 0 count) new
+round-begun start old new t went count is l same =
+    let z : t + (count - t) ≡ count = omega arith in
+    begun-first start (range_with_len 0 t) (range_with_len (0 + t) (count - t)) (range_with_len 0 count) new (ap (range_with_len 0) (sym z) ∙ range-append 0 t (count - t)) (same ∙ is.turns)
 
 -- some turns were had, and others begun
 pub begun-later : (old mid : Played) (xs ys zs turns : List ℕ) (new : Played) → turns ≡ xs ++ (ys ++ zs) → mid ≡ after_turns old xs → HasBegun mid ys new → HasBegun old turns new
@@ -128,6 +138,38 @@ rounds-last start mid n l m idle =
     ap (λ (x : Threads). history_of x (range_with_len 0 (length start.program.threads)) (world_of mid)) (sym same) ∙ idle in
     let e = rounds_idle (threads_in start) (length start.program.threads) n (start.limits.steps - n) (world_of start) (has_only start.program start.limits) (sym (threads_count start)) none in
     m ∙ ap (λ (l : List ℕ). record start { taken = start.taken ++ l }) (sym e) ∙ ap (λ (x : ℕ). after_turns start (round_turns (length start.program.threads) x)) k
+
+pub rounds-stop : (start mid new : Played) (n : ℕ) → n ≤ start.limits.steps → mid ≡ after_turns start (round_turns (length start.program.threads) n) →
+    new ≡ after_turns mid (range_with_len 0 (length mid.program.threads)) → steps_in mid (range_with_len 0 (length mid.program.threads)) ≡ [] → new ≡ after_turns start (all_rounds start)
+rounds-stop start mid new n l m h idle =
+    let c : length mid.program.threads ≡ length start.program.threads = ap (λ (p : Played). length p.program.threads) m in
+    h ∙ after_turns-none mid (range_with_len 0 (length mid.program.threads)) idle ∙
+    rounds-last start mid n l m (ap (λ (k : ℕ). steps_in mid (range_with_len 0 k)) (sym c) ∙ idle)
+
+-- a round that stopped
+pub rounds-begun : (start mid new : Played) (n : ℕ) → n < start.limits.steps → mid ≡ after_turns start (round_turns (length start.program.threads) n) →
+    HasBegun mid (range_with_len 0 (length mid.program.threads)) new → HasBegun start (all_rounds start) new
+rounds-begun start mid new n l m begun =
+    let z : (n + 1) + (start.limits.steps - (n + 1)) ≡ start.limits.steps = omega arith in
+    let c : length mid.program.threads ≡ length start.program.threads = ap (λ (p : Played). length p.program.threads) m in
+    let P : ℕ → Type 0 = λ k. HasBegun mid (range_with_len 0 k) new in
+    begun-later start mid (round_turns (length start.program.threads) n) (range_with_len 0 (length start.program.threads)) (round_turns (length start.program.threads) (start.limits.steps - (n + 1)))
+    (all_rounds start) new
+    (ap (round_turns (length start.program.threads)) (sym z) ∙ round_turns-append (length start.program.threads) (n + 1) (start.limits.steps - (n + 1)) ∙
+    ap (λ (l : List ℕ). l ++ round_turns (length start.program.threads) (start.limits.steps - (n + 1))) (round_turns-more (length start.program.threads) n) ∙
+    append_assoc (round_turns (length start.program.threads) n) (range_with_len 0 (length start.program.threads)) (round_turns (length start.program.threads) (start.limits.steps - (n + 1)))) m (subst P c begun)
+
+-- before any round, and after one more
+pub rounds-none : (start : Played) → start ≡ after_turns start (round_turns (length start.program.threads) 0)
+unfolding round_turns
+rounds-none start = after_turns-nil start
+
+pub rounds-more : (start mid new : Played) (n : ℕ) → mid ≡ after_turns start (round_turns (length start.program.threads) n) →
+    new ≡ after_turns mid (range_with_len 0 (length mid.program.threads)) → new ≡ after_turns start (round_turns (length start.program.threads) (n + 1))
+rounds-more start mid new n m h =
+    h ∙ ap (λ (p : Played). after_turns p (range_with_len 0 (length p.program.threads))) m ∙
+    sym (after_turns-append start (round_turns (length start.program.threads) n) (range_with_len 0 (length start.program.threads))) ∙
+    ap (after_turns start) (sym (round_turns-more (length start.program.threads) n))
 
 -- after all rounds every thread has ended
 pub rounds-over : (start new : Played) → new ≡ after_turns start (all_rounds start) → IsOver new

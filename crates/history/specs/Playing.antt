@@ -1,16 +1,31 @@
 -- The state of a plain machine.
-use Rattle.std.specs.Prelude.{◌≡◌, ℕ, ◌+◌, ◌<◌, Option, List, [], ◌∷◌, ◌++◌, length, slice_index_or}
+use Rattle.std.specs.Prelude.{◌≡◌, ℕ, ◌+◌, ◌<◌, nat_le, Option, option_and_then, IsSome, List, [], ◌∷◌, ◌++◌, length, slice_index_or}
 use Rattle.replay_model.specs.declared.Access.{Access}
 use Rattle.replay_model.specs.declared.Want.{Want}
 use Rattle.replay_model.specs.Steps.{Tag, Cell, Step, word_of, access_of, accesses_from}
 use Rattle.replay_model.specs.ThreadLogs.{thread_log, is_full}
 use Rattle.replay_model.specs.Histories.{IsLegal}
-use Rattle.machine.specs.Programs.{ProgramValue, LimitsValue, IsProgram, AreLimits}
-use Rattle.machine.specs.Cores.{settled, took}
+use Rattle.machine.specs.Programs.{ProgramValue, LimitsValue, IsProgram}
+use Rattle.machine.specs.Cores.{State, Report, first_state, settled, took, end_of, report_of}
 use Rattle.machine.specs.Runs.{state_after, start_of}
 use Rattle.history.specs.declared.seat.Seat.{Seat}
 use Rattle.history.specs.Played.{Played, threads_in, world_of, thread_steps}
 use Rattle.history.specs.Sightings.{has_pair, has_seen, Sees}
+
+-- the core after it ran up to its next step or its end
+abbrev pub run_core : ProgramValue → LimitsValue → Seat → State
+run_core p limits seat = settled p limits (nat_le limits.entries (length seat.seen.keys)) seat.core
+
+-- what is kept of a thread at its start
+pub record IsFresh (t : ℕ) (seat : Seat) : Type 0 where
+  pub core : seat.core ≡ first_state t
+  pub accesses : seat.accesses.items ≡ []
+  pub seen : seat.seen.keys ≡ []
+
+-- so many threads, each at its start
+pub record AreFresh (count : ℕ) (seats : List Seat) : Type 0 where
+  pub counted : length seats ≡ count
+  pub each : (t : ℕ) (seat : Seat) → t < count → IsFresh t (slice_index_or seats t seat)
 
 -- what is kept of thread t is what these steps made of it, but for local instructions that are left
 pub record IsSeat (p : ProgramValue) (limits : LimitsValue) (t : ℕ) (steps : List Step) (seat : Seat) : Type 0 where
@@ -23,7 +38,6 @@ pub record IsSeat (p : ProgramValue) (limits : LimitsValue) (t : ℕ) (steps : L
 -- the cells and the threads are those that a legal history leads to
 pub record IsPlaying (played : Played) (cells : List Cell) (seats : List Seat) : Type 0 where
   pub rules : IsProgram played.program
-  pub bounds : AreLimits played.limits
   pub legal : IsLegal (threads_in played) played.taken (start_of played.program)
   pub memory : cells ≡ (world_of played).memory
   pub counted : length seats ≡ length played.program.threads
@@ -41,3 +55,12 @@ pub record Keeps (old new : Seat) : Type 0 where
   pub core : new.core ≡ old.core
   pub accesses : new.accesses.items ≡ old.accesses.items
   pub seen : new.seen.keys ≡ old.seen.keys
+
+-- the thread is one of the program's, and has ended
+pub record MayReport (p : ProgramValue) (limits : LimitsValue) (seat : Seat) : Type 0 where
+  pub thread : seat.core.thread < length p.threads
+  pub ended : IsSome (option_and_then end_of (run_core p limits seat).pending)
+
+-- what it reports
+abbrev pub seat_report : ProgramValue → LimitsValue → Seat → Report
+seat_report p limits seat = report_of (run_core p limits seat)

@@ -2,7 +2,9 @@
 #![tactic(auto)]
 
 mod cells;
+mod laws;
 mod plain;
 mod seat;
 
+pub use laws::history_law;
 pub use plain::{Plain, Stepped};

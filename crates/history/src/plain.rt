@@ -1,14 +1,15 @@
 // The plain machine: all threads of a program, taken step by step on one memory.
-ghost use Rattle.std.specs.Prelude.{◌≡◌, ℕ, ◌+◌, ◌<◌, ◌≤◌, Bool, true, false, not, IfOk, OnOk, OnErr, [], length};
+ghost use Rattle.std.specs.Prelude.{◌≡◌, ℕ, ◌+◌, ◌<◌, ◌≤◌, Bool, true, false, not, IfOk, OnOk, OnErr, [], ◌∷◌, length, map, All};
 ghost use Rattle.std.specs.List.{range_with_len};
 ghost use Rattle.replay_model.specs.Steps.{accesses_from, initial_cells};
 ghost use Rattle.replay_model.specs.Histories.{round_turns};
-ghost use Rattle.machine.specs.Runs.{reports_of, values_of};
+ghost use Rattle.machine.specs.Runs.{reports_of, rounds_of, values_of};
 ghost use Rattle.history.specs.Played.{unplayed, world_of, thread_steps, after_turns, steps_in, HasBegun, IsOver};
+ghost use Rattle.history.specs.Playing.{AreFresh, MayReport, seat_report};
 ghost use Rattle.history.specs.Stepping.{IsStep};
 
 use crate::seat::Seat;
-use light_base::{Cell, Memory};
+use light_base::{Cell, Memory, Tag};
 use machine::{Access, End, Limits, Program, RunReport, Want};
 use std::alloc::Global;
 use std::marker::Model;
@@ -48,7 +49,66 @@ impl<'p> Model for Plain<'p> {
     ghost invariant = { λ p. IsPlaying (record { program = p.program.now; limits = p.limits; taken = p.taken.items }) p.cells.items p.seats.items };
 }
 
+// The words before any step.
+fn opening_cells(alloc: Global, words: &[u32]) -> Result<Vec<Cell>, Memory>
+    ensures { IfOk result (λ cells. cells.items ≡ initial_cells words.now) }
+{
+    let cells = words
+        .iter()
+        .map(|value| Cell {
+            value: *value,
+            tag: Tag::INITIAL,
+        })
+        .collect(alloc)?;
+    Ok(cells)
+}
+
+// The threads before any step.
+fn opening_seats(alloc: Global, count: u8) -> Result<Vec<Seat>, Memory>
+    requires { count ≤ 15 }
+    ensures { IfOk result (λ seats. AreFresh count seats.items) }
+{
+    let mut seats = Vec::new(alloc);
+    for thread in 0..count {
+        seats.push(Seat::new(alloc, thread))?;
+    }
+    Ok(seats)
+}
+
+// What the threads report, in their order.
+fn reports(
+    alloc: Global,
+    program: &Program,
+    limits: &Limits,
+    seats: Vec<Seat>,
+) -> Result<Vec<RunReport>, Memory>
+    requires { All (MayReport program.now limits.now) seats.items }
+    ensures { IfOk result (λ reports. reports.items ≡ map (seat_report program.now limits.now) seats.items) }
+{
+    let mut reports = Vec::with_capacity(alloc, seats.len())?;
+    for seat in seats {
+        reports.push(seat.into_report(program, limits)?)?;
+    }
+    Ok(reports)
+}
+
 impl<'p> Plain<'p> {
+    /// The opening state: each word has its initial value, which nobody wrote, and no thread has taken a step.
+    pub fn new(alloc: Global, program: &'p Program, limits: Limits) -> Result<Plain<'p>, Memory>
+        ensures { IfOk result (λ plain. plain ≡ unplayed program.now limits) }
+    {
+        let cells = opening_cells(alloc, program.words())?;
+        let seats = opening_seats(alloc, program.threads_count() as u8)?;
+        Ok(Plain {
+            program,
+            limits,
+            cells,
+            seats,
+            taken: Vec::new(alloc),
+            alloc,
+        })
+    }
+
     /// Takes a step of a thread; where it has ended, nothing changes. After an `Err` all is as before.
     pub fn step(&mut self, thread: u8) -> Result<Stepped, Memory>
         requires { thread < length self.old.program.threads }
@@ -64,6 +124,66 @@ impl<'p> Plain<'p> {
         let access = self.seats[place].step(&mut self.cells, thread, &want)?;
         self.taken.push_reserved(thread);
         Ok(Stepped::Took(access))
+    }
+
+    // How many threads there are.
+    fn threads_count(&self) -> u8
+        ensures count { result ≡ length self.now.program.threads }
+        ensures small { result ≤ 15 }
+    {
+        self.program.threads_count() as u8
+    }
+
+    // A turn of one thread. Whether it took a step.
+    fn turn(&mut self, thread: u8) -> Result<bool, Memory>
+        requires { thread < length self.old.program.threads }
+        ensures ok { IfOk result (λ went. self.new ≡ after_turns self.old (thread ∷ [])) }
+        ensures idle { IfOk result (λ went. went ≡ false → steps_in self.old (thread ∷ []) ≡ []) }
+        ensures err { OnErr result (self.new ≡ self.old) }
+    {
+        match self.step(thread) {
+            Ok(Stepped::Took(_)) => Ok(true),
+            Ok(Stepped::Ended(_)) => Ok(false),
+            Err(refused) => Err(refused),
+        }
+    }
+
+    // A turn of each thread. Whether one of them took a step.
+    fn round(&mut self) -> Result<bool, Memory>
+        ensures ok { IfOk result (λ went. self.new ≡ after_turns self.old (range_with_len 0 (length self.old.program.threads))) }
+        ensures idle { IfOk result (λ went. went ≡ false → steps_in self.old (range_with_len 0 (length self.old.program.threads)) ≡ []) }
+        ensures err { OnErr result (HasBegun self.old (range_with_len 0 (length self.old.program.threads)) self.new) }
+    {
+        let mut went = false;
+        for thread in 0..self.threads_count() {
+            if self.turn(thread)? {
+                went = true;
+            }
+        }
+        Ok(went)
+    }
+
+    // How many steps a thread may take.
+    fn most_steps(&self) -> u32
+        ensures { result ≡ self.now.limits.steps }
+    {
+        self.limits.steps()
+    }
+
+    /// Takes rounds until every thread has ended; in a round the threads 0, 1, 2 and so on take one step each, and
+    /// ended ones are passed over. After an `Err` some first ones of these steps were taken.
+    pub fn turns(&mut self) -> Result<(), Memory>
+        ensures ok { OnOk result (self.new ≡ after_turns self.old (round_turns (length self.old.program.threads) self.old.limits.steps)) }
+        ensures over { OnOk result (IsOver self.new) }
+        ensures rounds { OnOk result (self.old.taken ≡ [] → self.new.taken ≡ rounds_of self.old.program self.old.limits) }
+        ensures err { OnErr result (HasBegun self.old (round_turns (length self.old.program.threads) self.old.limits.steps) self.new) }
+    {
+        for _round in 0..self.most_steps() {
+            if !self.round()? {
+                return Ok(());
+            }
+        }
+        Ok(())
     }
 
     /// The history so far: one thread number for each step.
@@ -86,5 +206,33 @@ impl<'p> Plain<'p> {
         ensures { result.now ≡ (world_of self.now).memory }
     {
         &self.cells
+    }
+
+    /// The last value of each word.
+    pub fn values(&self) -> Result<Vec<u32>, Memory>
+        ensures { IfOk result (λ values. values.items ≡ values_of (world_of self.now)) }
+    {
+        let values = self
+            .cells
+            .iter()
+            .map(|cell| cell.value)
+            .collect(self.alloc)?;
+        Ok(values)
+    }
+
+    /// What each thread reports, where every thread has ended.
+    pub fn into_reports(self) -> Result<Vec<RunReport>, Memory>
+        requires { IsOver self }
+        ensures { IfOk result (λ reports. reports.items ≡ reports_of self.entry.program self.entry.limits (world_of self.entry)) }
+    {
+        let Plain {
+            program,
+            limits,
+            cells: _,
+            seats,
+            taken: _,
+            alloc,
+        } = self;
+        reports(alloc, program, &limits, seats)
     }
 }

@@ -1,11 +1,12 @@
 // What a plain machine keeps of one thread.
-ghost use Rattle.std.specs.Prelude.{◌≡◌, ◌+◌, ◌<◌, ◌≤◌, false, nat_le, is_some, IfOk, OnErr, OnOk, [], length, Some};
+ghost use Rattle.std.specs.Prelude.{◌≡◌, ◌+◌, ◌<◌, ◌≤◌, false, is_some, option_and_then, IsSome, IfOk, OnErr, OnOk, length, Some};
 ghost use Rattle.replay_model.specs.Steps.{found_in, has_ended, put, reads, word_of};
-ghost use Rattle.machine.specs.Cores.{first_state, settled};
+ghost use Rattle.machine.specs.Programs.{AreLimits};
+ghost use Rattle.machine.specs.Cores.{end_of, report_of};
 
 use crate::cells::{found_in, put, word_of, written};
 use light_base::{Cell, Event, Memory};
-use machine::{Core, Limits, Program};
+use machine::{Core, Limits, Program, RunReport};
 use replay_model::{Access, Want};
 use std::alloc::Global;
 use std::collections::HashSet;
@@ -27,14 +28,12 @@ pub(crate) struct Seat {
 
 impl Seat {
     ghost use Rattle.history.specs.Sightings.{Sees};
-    ghost use Rattle.history.specs.Playing.{Takes, Keeps};
+    ghost use Rattle.history.specs.Playing.{run_core, IsFresh, Takes, Keeps};
 
     // A thread at its start.
     pub(crate) fn new(alloc: Global, thread: u8) -> Seat
         requires { thread ≤ 14 }
-        ensures core { result.core ≡ first_state thread }
-        ensures accesses { result.accesses.items ≡ [] }
-        ensures seen { result.seen.keys ≡ [] }
+        ensures { IsFresh thread result }
     {
         Seat {
             core: Core::new(alloc, thread),
@@ -46,8 +45,9 @@ impl Seat {
     // Runs the thread up to its next memory step or its end.
     pub(crate) fn run(&mut self, program: &Program, limits: &Limits) -> Result<Want, Memory>
         requires { self.old.core.thread < length program.now.threads }
-        ensures ok { IfOk result (λ wanted. (self.new ≡ record self.old { core = settled program.now limits.now (nat_le limits.now.entries (length self.old.seen.keys)) self.old.core }) × (self.new.core.pending ≡ Some wanted)) }
+        ensures ok { IfOk result (λ wanted. (self.new ≡ record self.old { core = run_core program.now limits.now self.old }) × (self.new.core.pending ≡ Some wanted)) }
         ensures err { OnErr result (self.new ≡ self.old) }
+        ensures rules { AreLimits limits.now }
     {
         let full = self.seen.len() >= limits.entries() as usize;
         self.core.go(program, limits, full)
@@ -124,5 +124,25 @@ impl Seat {
         };
         put(cells, word_of(want), event, access.wrote);
         Ok(access)
+    }
+
+    // How the thread ended, and what it did.
+    pub(crate) fn into_report(
+        self,
+        program: &Program,
+        limits: &Limits,
+    ) -> Result<RunReport, Memory>
+        requires thread { self.core.thread < length program.now.threads }
+        requires ended { IsSome (option_and_then end_of (run_core program.now limits.now self).pending) }
+        ensures { IfOk result (λ report. report ≡ report_of (run_core program.now limits.now self)) }
+    {
+        let Seat {
+            mut core,
+            accesses: _,
+            seen,
+        } = self;
+        let full = seen.len() >= limits.entries() as usize;
+        core.go(program, limits, full)?;
+        Ok(core.report())
     }
 }

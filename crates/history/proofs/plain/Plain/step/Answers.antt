@@ -14,21 +14,21 @@ pub invariant_of-self-in-Ended : goal.invariant_of-self-in-Ended
 invariant_of-self-in-Ended c =
     let played : Played = record { program = c.self.inside.program.now; limits = c.self.inside.limits; taken = c.self.inside.taken.items } in
     let r : Ran played c.self.inside.cells.items c.self.inside.seats.items c.from-place.result c.index_mut.result.now c.run.new.self c.in_ok-want.want =
-    ran-made c.args.self.now played _ _ _ c.args.thread _ _ _ c.self.view_is c.requires c.from-place.ensures c.self.invariant c.index_mut.ensures.value c.in_ok-want.ensures.ok in
+    ran-made c.args.self.now played _ _ _ c.args.thread _ _ _ c.self.view_is c.requires c.from-place.ensures c.run.ensures.rules c.self.invariant c.index_mut.ensures.value c.in_ok-want.ensures.ok in
     ran-playing played c.self.inside.cells.items c.self.inside.seats.items c.from-place.result c.index_mut.result.now c.run.new.self c.in_ok-want.want r
 
 pub returns-in-Ended : goal.returns-in-Ended
 returns-in-Ended c =
     let played : Played = record { program = c.self.inside.program.now; limits = c.self.inside.limits; taken = c.self.inside.taken.items } in
     let r : Ran played c.self.inside.cells.items c.self.inside.seats.items c.from-place.result c.index_mut.result.now c.run.new.self c.in_ok-want.want =
-    ran-made c.args.self.now played _ _ _ c.args.thread _ _ _ c.self.view_is c.requires c.from-place.ensures c.self.invariant c.index_mut.ensures.value c.in_ok-want.ensures.ok in
+    ran-made c.args.self.now played _ _ _ c.args.thread _ _ _ c.self.view_is c.requires c.from-place.ensures c.run.ensures.rules c.self.invariant c.index_mut.ensures.value c.in_ok-want.ensures.ok in
     record { ok = is-end c.args.self.now played c.self.inside.cells.items c.self.inside.seats.items c.from-place.result c.args.thread c.index_mut.result.now c.run.new.self c.in_ok-want.want r c.self.view_is c.from-place.ensures c.in-Ended.end c.in-Ended.is; err = tt }
 
 pub invariant_of-self-in_err-reserve : goal.invariant_of-self-in_err-reserve
 invariant_of-self-in_err-reserve c =
     let played : Played = record { program = c.self.inside.program.now; limits = c.self.inside.limits; taken = c.self.inside.taken.items } in
     let r : Ran played c.self.inside.cells.items c.self.inside.seats.items c.from-place.result c.index_mut.result.now c.run.new.self c.in_ok-want.want =
-    ran-made c.args.self.now played _ _ _ c.args.thread _ _ _ c.self.view_is c.requires c.from-place.ensures c.self.invariant c.index_mut.ensures.value c.in_ok-want.ensures.ok in
+    ran-made c.args.self.now played _ _ _ c.args.thread _ _ _ c.self.view_is c.requires c.from-place.ensures c.run.ensures.rules c.self.invariant c.index_mut.ensures.value c.in_ok-want.ensures.ok in
     let P : List ℕ → Type 0 = λ l. IsPlaying (record { program = c.self.inside.program.now; limits = c.self.inside.limits; taken = l }) c.self.inside.cells.items
     (slice_set c.self.inside.seats.items c.from-place.result c.run.new.self) in
     subst P (sym c.reserve.ensures.items) (ran-playing played c.self.inside.cells.items c.self.inside.seats.items c.from-place.result c.index_mut.result.now c.run.new.self c.in_ok-want.want r)
@@ -37,7 +37,7 @@ pub step-requires : goal.step-requires
 step-requires c =
     let played : Played = record { program = c.self.inside.program.now; limits = c.self.inside.limits; taken = c.self.inside.taken.items } in
     let r : Ran played c.self.inside.cells.items c.self.inside.seats.items c.from-place.result c.index_mut.result.now c.run.new.self c.in_ok-want.want =
-    ran-made c.args.self.now played _ _ _ c.args.thread _ _ _ c.self.view_is c.requires c.from-place.ensures c.self.invariant c.index_mut.ensures.value c.in_ok-want.ensures.ok in
+    ran-made c.args.self.now played _ _ _ c.args.thread _ _ _ c.self.view_is c.requires c.from-place.ensures c.run.ensures.rules c.self.invariant c.index_mut.ensures.value c.in_ok-want.ensures.ok in
     let lives : has_ended c.in_ok-want.want ≡ false = lives_from c.in_ok-want.want c.in_default.not-Ended in
     let same : c.index_mut-2.result.now ≡ c.run.new.self = at-same played c.self.inside.cells.items c.self.inside.seats.items c.from-place.result c.index_mut.result.now c.run.new.self c.in_ok-want.want r c.index_mut-2.result.now c.index_mut-2.ensures.value in
     let word = word_there played c.self.inside.cells.items c.self.inside.seats.items c.from-place.result c.index_mut.result.now c.run.new.self c.in_ok-want.want r lives in
@@ -56,7 +56,7 @@ pub invariant_of-self-in_err-access : goal.invariant_of-self-in_err-access
 invariant_of-self-in_err-access c =
     let played : Played = record { program = c.self.inside.program.now; limits = c.self.inside.limits; taken = c.self.inside.taken.items } in
     let r : Ran played c.self.inside.cells.items c.self.inside.seats.items c.from-place.result c.index_mut.result.now c.run.new.self c.in_ok-want.want =
-    ran-made c.args.self.now played _ _ _ c.args.thread _ _ _ c.self.view_is c.requires c.from-place.ensures c.self.invariant c.index_mut.ensures.value c.in_ok-want.ensures.ok in
+    ran-made c.args.self.now played _ _ _ c.args.thread _ _ _ c.self.view_is c.requires c.from-place.ensures c.run.ensures.rules c.self.invariant c.index_mut.ensures.value c.in_ok-want.ensures.ok in
     let back : take c.self.inside.cells.len (c.step.new.cells ++ drop (length c.step.new.cells) c.self.inside.cells.items) ≡ c.self.inside.cells.items =
     written_back c.self.inside.cells.len c.step.new.cells c.self.inside.cells.items (ap length (sym c.deref_mut.ensures.value) ∙ c.deref_mut.ensures.len)
     (ap length c.in_err-access.ensures.same ∙ c.deref_mut.ensures.len) ∙ c.in_err-access.ensures.same ∙ c.deref_mut.ensures.value in
@@ -70,7 +70,7 @@ pub invariant_of-self-2 : goal.invariant_of-self-2
 invariant_of-self-2 c =
     let played : Played = record { program = c.self.inside.program.now; limits = c.self.inside.limits; taken = c.self.inside.taken.items } in
     let r : Ran played c.self.inside.cells.items c.self.inside.seats.items c.from-place.result c.index_mut.result.now c.run.new.self c.in_ok-want.want =
-    ran-made c.args.self.now played _ _ _ c.args.thread _ _ _ c.self.view_is c.requires c.from-place.ensures c.self.invariant c.index_mut.ensures.value c.in_ok-want.ensures.ok in
+    ran-made c.args.self.now played _ _ _ c.args.thread _ _ _ c.self.view_is c.requires c.from-place.ensures c.run.ensures.rules c.self.invariant c.index_mut.ensures.value c.in_ok-want.ensures.ok in
     let lives : has_ended c.in_ok-want.want ≡ false = lives_from c.in_ok-want.want c.in_default.not-Ended in
     let back : take c.self.inside.cells.len (c.step.new.cells ++ drop (length c.step.new.cells) c.self.inside.cells.items) ≡
     put c.self.inside.cells.items (word_of c.in_ok-want.want) (record { thread = c.args.thread; step = c.in_ok-access.access.step }) c.in_ok-access.access.wrote =
@@ -85,7 +85,7 @@ pub returns : goal.returns
 returns c =
     let played : Played = record { program = c.self.inside.program.now; limits = c.self.inside.limits; taken = c.self.inside.taken.items } in
     let r : Ran played c.self.inside.cells.items c.self.inside.seats.items c.from-place.result c.index_mut.result.now c.run.new.self c.in_ok-want.want =
-    ran-made c.args.self.now played _ _ _ c.args.thread _ _ _ c.self.view_is c.requires c.from-place.ensures c.self.invariant c.index_mut.ensures.value c.in_ok-want.ensures.ok in
+    ran-made c.args.self.now played _ _ _ c.args.thread _ _ _ c.self.view_is c.requires c.from-place.ensures c.run.ensures.rules c.self.invariant c.index_mut.ensures.value c.in_ok-want.ensures.ok in
     let lives : has_ended c.in_ok-want.want ≡ false = lives_from c.in_ok-want.want c.in_default.not-Ended in
     record {
       ok = is-step c.args.self.now played c.self.inside.cells.items c.self.inside.seats.items c.from-place.result c.args.thread c.index_mut.result.now c.run.new.self c.in_ok-want.want r c.self.view_is c.from-place.ensures c.index_mut-2.result.now c.step.new.self c.index_mut-2.ensures.value lives (found_in c.deref_mut.result.now c.in_ok-want.want)

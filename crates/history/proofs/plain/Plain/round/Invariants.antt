@@ -1,0 +1,8 @@
+use Rattle.std.proofs.Common.{◌≡◌, false, [], length}
+use Rattle.std.specs.List.{range_with_len}
+use Rattle.history.specs.Played.{after_turns, steps_in}
+use Rattle.history.proofs.Turns.{IsInRound}
+use Rattle.history.proofs.plain.Plain.round.Given as goal
+
+abbrev pub invariant-loop-thread : goal.invariant-loop-thread
+invariant-loop-thread l = IsInRound l.initial.self l.thread l.went l.self
