@@ -25,9 +25,11 @@ settled_already p limits full s now wanted same h =
 pub code_rules : (p : ProgramValue) (thread : ℕ) (code : List Instr) → IsProgram p → thread < length p.threads → code ≡ code_of p thread → IsCode code
 code_rules p thread code rules there e = subst IsCode (sym e) (All-get_or IsCode p.threads thread [] there rules.each)
 
+-- a program has few words
 pub words_few : (p : ProgramValue) (words : List ℕ) → IsProgram p → words ≡ p.words → length words ≤ 4096
 words_few p words rules e = let P : List ℕ → Type 0 = λ w. length w ≤ 4096 in subst P (sym e) rules.most_words
 
+-- the limits that bound a course are limits
 pub limits_rules : (limits : LimitsValue) (steps instr : ℕ) → AreLimits limits → steps ≡ limits.steps → instr ≡ limits.instr → AreLimits (record { steps = steps; instr = instr; entries = 0 })
 limits_rules limits steps instr rules s i = let a = rules.steps in let b = rules.instr in record { steps = omega arith; instr = omega arith; entries = omega arith }
 

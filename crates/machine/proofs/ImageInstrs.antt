@@ -90,7 +90,7 @@ instr_takes len bytes i fits long e =
     let spelled : behind ≡ to_be_bytes w32 imm ++ drop 4 behind = front_number w32 (2 ^ 32) wide32 behind (IsBytes-drop 4 bytes fits) (omega (arith, length-drop 4 bytes)) in
     let rest : drop 4 behind ≡ drop 8 bytes = drop-drop 4 4 bytes in
     let all : bytes ≡ instr_image (made bytes o) ++ drop 8 bytes =
-        first_four bytes (omega arith) ∙ ap (λ (x : ℕ). x ∷ a ∷ b ∷ c ∷ behind) code ∙ ap (λ (xs : List ℕ). code_of_op o ∷ a ∷ b ∷ c ∷ xs) (spelled ∙ ap (λ (xs : List ℕ). to_be_bytes w32 imm ++ xs) rest) in
+    first_four bytes (omega arith) ∙ ap (λ (x : ℕ). x ∷ a ∷ b ∷ c ∷ behind) code ∙ ap (λ (xs : List ℕ). code_of_op o ∷ a ∷ b ∷ c ∷ xs) (spelled ∙ ap (λ (xs : List ℕ). to_be_bytes w32 imm ++ xs) rest) in
     let P : Instr → Type 0 = λ j. TakesInstr len bytes j in
     subst P h.3 (record { parts = all; rules = instr_keeps len (made bytes o) h.2; imm = wide32.below (take 4 behind) (IsBytes-take 4 behind (IsBytes-drop 4 bytes fits)) })
 

@@ -15,15 +15,18 @@ use Rattle.machine.specs.Cores.{State, IsState, HasRoom, most_outputs, address_o
 use Rattle.machine.proofs.Local.{no_end, passed, goes_on}
 use Rattle.machine.proofs.Rests.{comes-taken, comes-past}
 
+-- each instruction of a code keeps the rules
 pub instr_at : (code : List Instr) (place : ℕ) (i : Instr) → IsCode code → slice_get code place ≡ Some i → IsInstr (length code) i
 instr_at code place i rules at =
     let P : Instr → Type 0 = λ j. IsInstr (length code) j in
     subst P (get_or_from_slice_get code place i i at) (All-get_or (IsInstr (length code)) code place i (slice_get_within code place i at) rules.each)
 
+-- what holds with more holds
 and_first : (a b : Bool) → (a && b) ≡ true → a ≡ true
 and_first true b h = refl
 and_first false b h = h
 
+-- a register that is used is one of the sixteen
 register_below : (used : Bool) (r : ℕ) → used ≡ true → is_register used r ≡ true → r < 16
 register_below true r u h = ltb-true r 16 h
 register_below false r u h = cc
@@ -32,14 +35,17 @@ register_below false r u h = cc
 pub first_register : (i : Instr) → has_registers i ≡ true → uses_a i.op ≡ true → i.a < 16
 first_register i h u = register_below (uses_a i.op) i.a u (and_first _ _ (and_first _ _ h))
 
+-- with nothing pending there is nothing to leave room for
 no_room : (o : Option Want) (s : State) → o ≡ None → HasRoom o s
 no_room None s h = tt
 no_room (Some w) s h = cc
 
+-- a jump stays within the code
 target_within : (len imm : ℕ) (b : Bool) → ltb len imm ≡ b → not b ≡ true → imm ≤ len
 target_within len imm true e h = cc
 target_within len imm false e h = ltb-false len imm e
 
+-- one of two numbers that are small enough is
 chosen_within : (b : Bool) (x y most : ℕ) → x ≤ most → y ≤ most → cond b x y ≤ most
 chosen_within true x y most p q = p
 chosen_within false x y most p q = q
@@ -103,6 +109,7 @@ out_room words limits full s i h =
     let f = passed (is_reading i.op && full) end.EntriesFull _ d.1 in
     (passed (is_out i.op && leb most_outputs (length s.output)) end.OutputFull None f.1).0
 
+-- a local instruction at the place of a state keeps what holds of it
 pub ran-is_state : (code : List Instr) (words : ℕ) (limits : LimitsValue) (full : Bool) (s : State) (o : Option Instr) → IsCode code → AreLimits limits → slice_get code s.place ≡ o → comes_to words limits full s o ≡ None →
     s.pending ≡ None → IsState s → IsState (ran (instr_or_halt o).op s (instr_or_halt o))
 ran-is_state code words limits full s None rules bounds at h none state = cc
@@ -111,6 +118,7 @@ ran-is_state code words limits full s (Some i) rules bounds at h none state =
     let b = bounds.instr in
     ran_state i.op s i (length code) (slice_get_within code s.place i at) rules.short (omega arith) none (instr_at code s.place i rules at).target (out_room words limits full s i h) state
 
+-- a local instruction leaves what is pending
 ran-pending : (o : Op) (s : State) (i : Instr) → (ran o s i).pending ≡ s.pending
 ran-pending op.Halt s i = refl
 ran-pending op.Const s i = refl
@@ -120,6 +128,7 @@ ran-pending op.Out s i = refl
 ran-pending op.Load s i = refl
 ran-pending op.Store s i = refl
 
+-- so does stopping at an instruction
 pub waiting-is_state : (code : List Instr) (words : ℕ) (limits : LimitsValue) (full : Bool) (s : State) (o : Option Instr) (wanted : Want) → IsCode code → AreLimits limits → slice_get code s.place ≡ o →
     comes_to words limits full s o ≡ Some wanted → IsState s → IsState (waiting s o wanted)
 waiting-is_state code words limits full s None wanted rules bounds at h state = record {
@@ -145,11 +154,13 @@ waiting-is_state code words limits full s (Some i) wanted rules bounds at h stat
       (omega arith, omega arith, omega arith, first_register i (instr_at code s.place i rules at).registers t.used);
 }
 
+-- either of the two does
 waiting_or-is_state : (code : List Instr) (words : ℕ) (limits : LimitsValue) (full : Bool) (s : State) (o : Option Instr) (t : Option Want) → IsCode code → AreLimits limits → slice_get code s.place ≡ o →
     comes_to words limits full s o ≡ t → IsState s → (next : State) → (comes_to words limits full s o ≡ None → IsState next) → IsState (waiting_or s o t next)
 waiting_or-is_state code words limits full s o None rules bounds at h state next f = f h
 waiting_or-is_state code words limits full s o (Some wanted) rules bounds at h state next f = waiting-is_state code words limits full s o wanted rules bounds at h state
 
+-- so do many local instructions
 pub run_local-is_state : (n : ℕ) (code : List Instr) (words : ℕ) (limits : LimitsValue) (full : Bool) (s : State) → IsCode code → AreLimits limits → s.pending ≡ None → IsState s →
     IsState (run_local n code words limits full s)
 unfolding run_local

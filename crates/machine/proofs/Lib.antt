@@ -10,3 +10,6 @@ pub mod ImageHead
 pub mod ImageSteps
 pub mod ImageNumbers
 pub mod ImageInstrs
+pub mod Keeping
+pub mod ImageLaws
+pub mod ImageExamples

@@ -37,6 +37,7 @@ pub record GoesOn (limits : LimitsValue) (s : State) (i : Instr) : Type 0 where
   pub room : s.instr < limits.instr
   pub counts : (ran i.op s i).instr ≡ s.instr + 1
 
+-- a local instruction is counted, and one was left
 pub goes_on : (words : ℕ) (limits : LimitsValue) (full : Bool) (s : State) (i : Instr) → comes_to words limits full s (Some i) ≡ None → GoesOn limits s i
 goes_on words limits full s i h =
     let e = no_end (end_before words limits full s i) (step_wanted i.op s i) h in
@@ -55,6 +56,7 @@ pub run_local-none : (n : ℕ) (code : List Instr) (words : ℕ) (limits : Limit
 unfolding run_local
 run_local-none n code words limits full s h = ap (λ t. waiting_or s (slice_get code s.place) t (run_local n code words limits full (ran (instr_or_halt (slice_get code s.place)).op s (instr_or_halt (slice_get code s.place))))) h
 
+-- the last step of a local run
 pub run_local-some : (n : ℕ) (code : List Instr) (words : ℕ) (limits : LimitsValue) (full : Bool) (s : State) (wanted : Want) → comes_to words limits full s (slice_get code s.place) ≡ Some wanted →
     run_local (suc n) code words limits full s ≡ waiting s (slice_get code s.place) wanted
 unfolding run_local
@@ -89,9 +91,11 @@ pub record Follows (old new : State) : Type 0 where
   pub steps : new.steps ≡ old.steps
   pub output : length old.output ≤ length new.output
 
+-- kept and kept again is kept
 follows_all : {a b c : State} → Follows a b → Follows b c → Follows a c
 follows_all ab bc = record { thread = bc.thread ∙ ab.thread; steps = bc.steps ∙ ab.steps; output = let x = ab.output in let y = bc.output in omega arith }
 
+-- an instruction keeps it
 pub ran-follows : (o : Op) (s : State) (i : Instr) → Follows s (ran o s i)
 ran-follows op.Halt s i = record { thread = refl; steps = refl; output = omega arith }
 ran-follows op.Const s i = record { thread = refl; steps = refl; output = omega arith }
@@ -101,13 +105,16 @@ ran-follows op.Out s i = record { thread = refl; steps = refl; output = omega (a
 ran-follows op.Load s i = record { thread = refl; steps = refl; output = omega arith }
 ran-follows op.Store s i = record { thread = refl; steps = refl; output = omega arith }
 
+-- so does stopping
 pub waiting-follows : (s : State) (o : Option Instr) (wanted : Want) → Follows s (waiting s o wanted)
 waiting-follows s o wanted = record { thread = refl; steps = refl; output = omega arith }
 
+-- either of the two does
 waiting_or-follows : (s : State) (o : Option Instr) (t : Option Want) (next : State) → Follows s next → Follows s (waiting_or s o t next)
 waiting_or-follows s o None next h = h
 waiting_or-follows s o (Some wanted) next h = waiting-follows s o wanted
 
+-- so do many local instructions
 pub run_local-follows : (n : ℕ) (code : List Instr) (words : ℕ) (limits : LimitsValue) (full : Bool) (s : State) → Follows s (run_local n code words limits full s)
 unfolding run_local
 run_local-follows zero code words limits full s = record { thread = refl; steps = refl; output = omega arith }
@@ -116,6 +123,7 @@ run_local-follows (suc n) code words limits full s =
     waiting_or-follows s (slice_get code s.place) (comes_to words limits full s (slice_get code s.place)) _
     (follows_all (ran-follows i.op s i) (run_local-follows n code words limits full (ran i.op s i)))
 
+-- so does a run
 pub run_on-follows : (code : List Instr) (words : ℕ) (limits : LimitsValue) (full : Bool) (s : State) → Follows s (run_on code words limits full s)
 unfolding run_on
 run_on-follows code words limits full s = run_local-follows _ code words limits full s
@@ -130,6 +138,7 @@ run_local-entries (suc n) code words limits entries full s =
     let i = instr_or_halt o in
     ap (λ (next : State). waiting_or s o (comes_to words limits full s o) next) (run_local-entries n code words limits entries full (ran i.op s i))
 
+-- the same of a run
 pub run_on-entries : (code : List Instr) (words : ℕ) (limits : LimitsValue) (entries : ℕ) (full : Bool) (s : State) →
     run_on code words (record limits { entries = entries }) full s ≡ run_on code words limits full s
 unfolding run_on

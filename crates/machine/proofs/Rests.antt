@@ -20,6 +20,7 @@ pub record IsTaken (words : ℕ) (limits : LimitsValue) (s : State) (i : Instr) 
   pub instr : s.instr < limits.instr
   pub used : uses_a i.op ≡ true
 
+-- a memory step that no end came before has a word, and is left
 wanted_taken : (o : Op) (words : ℕ) (limits : LimitsValue) (s : State) (i : Instr) (wanted : Want) → step_wanted o s i ≡ Some wanted →
     (is_memory o && leb words (address_of s i)) ≡ false → (is_memory o && leb limits.steps s.steps) ≡ false →
     (word_of wanted < words) × (s.steps < limits.steps) × (uses_a o ≡ true)
@@ -47,6 +48,7 @@ some_of (Some e) w wanted h lives =
     let t : has_ended wanted ≡ true = ap has_ended q in
     cc
 
+-- where a thread comes to a memory step, it may take it
 pub comes-taken : (words : ℕ) (limits : LimitsValue) (full : Bool) (s : State) (i : Instr) (wanted : Want) →
     comes_to words limits full s (Some i) ≡ Some wanted → has_ended wanted ≡ false → IsTaken words limits s i wanted
 comes-taken words limits full s i wanted h lives =
@@ -71,6 +73,7 @@ pub record Settles (words : ℕ) (limits : LimitsValue) (old new : State) : Type
   pub word : has_ended wanted ≡ false → word_of wanted < words
   pub room : has_ended wanted ≡ false → old.steps < limits.steps
 
+-- stopping at an instruction settles
 waiting-settles : (words : ℕ) (limits : LimitsValue) (full : Bool) (s : State) (o : Option Instr) (wanted : Want) → comes_to words limits full s o ≡ Some wanted → Settles words limits s (waiting s o wanted)
 waiting-settles words limits full s None wanted h = record {
   thread = refl;
@@ -89,11 +92,13 @@ waiting-settles words limits full s (Some i) wanted h = record {
   room = λ lives. (comes-taken words limits full s i wanted h lives).steps;
 }
 
+-- stopping does, or what follows does
 waiting_or-settles : (words : ℕ) (limits : LimitsValue) (full : Bool) (s : State) (o : Option Instr) (t : Option Want) → comes_to words limits full s o ≡ t →
     (next : State) → (GoesOn limits s (instr_or_halt o) → Settles words limits s next) → Settles words limits s (waiting_or s o t next)
 waiting_or-settles words limits full s o None h next f = f (going_instr words limits full s o h)
 waiting_or-settles words limits full s o (Some wanted) h next f = waiting-settles words limits full s o wanted h
 
+-- what settles the state after an instruction settles the state before it
 ran-settles : (words : ℕ) (limits : LimitsValue) (s : State) (i : Instr) (new : State) → Settles words limits (ran i.op s i) new → Settles words limits s new
 ran-settles words limits s i new h =
     let f = ran-follows i.op s i in
@@ -106,6 +111,7 @@ ran-settles words limits s i new h =
       room = λ lives. (let r = h.room lives in let e = f.steps in omega (arith, r, e));
     }
 
+-- enough local instructions settle
 pub run_local-settles : (n : ℕ) (code : List Instr) (words : ℕ) (limits : LimitsValue) (full : Bool) (s : State) → limits.instr - s.instr < n → Settles words limits s (run_local n code words limits full s)
 unfolding run_local
 run_local-settles zero code words limits full s h = absurd (omega arith)
@@ -114,18 +120,22 @@ run_local-settles (suc n) code words limits full s h =
     (λ g. let room = g.room in let counts = g.counts in
     ran-settles words limits s (instr_or_halt (slice_get code s.place)) _ (run_local-settles n code words limits full _ (omega arith)))
 
+-- a run settles
 pub run_on-settles : (code : List Instr) (words : ℕ) (limits : LimitsValue) (full : Bool) (s : State) → Settles words limits s (run_on code words limits full s)
 unfolding run_on
 run_on-settles code words limits full s = run_local-settles _ code words limits full s (omega arith)
 
+-- with something pending a state is settled
 pub settled-some : (p : ProgramValue) (limits : LimitsValue) (full : Bool) (s : State) (wanted : Want) → s.pending ≡ Some wanted → settled p limits full s ≡ s
 unfolding settled
 settled-some p limits full s wanted h = ap (λ o. if_none o s (run_on (code_of p s.thread) (length p.words) limits full s)) h
 
+-- with nothing pending it is settled by a run
 pub settled-none : (p : ProgramValue) (limits : LimitsValue) (full : Bool) (s : State) → s.pending ≡ None → settled p limits full s ≡ run_on (code_of p s.thread) (length p.words) limits full s
 unfolding settled
 settled-none p limits full s h = ap (λ o. if_none o s (run_on (code_of p s.thread) (length p.words) limits full s)) h
 
+-- and then it has something pending
 pub settled-settles : (p : ProgramValue) (limits : LimitsValue) (full : Bool) (s : State) → s.pending ≡ None → Settles (length p.words) limits s (settled p limits full s)
 settled-settles p limits full s h = let P : State → Type 0 = λ n. Settles (length p.words) limits s n in
     subst P (sym (settled-none p limits full s h)) (run_on-settles (code_of p s.thread) (length p.words) limits full s)

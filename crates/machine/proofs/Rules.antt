@@ -93,10 +93,10 @@ pub codes_are : (codes : List (List Instr)) → list_all is_short_code codes ≡
 codes_are codes short rules =
     λ k d lt. record { short = ltb-false 4096 _ (not-true _ (AllPass-from_list_all is_short_code codes short k d lt)); each = All-from_recursion (IsInstr (length (get_or codes k d))) (get_or codes k d) (All-from_recursion KeepsRules codes rules k d lt) }
 
-codes_rules : (codes : List (List Instr)) → All IsCode codes → AllByRecursion KeepsRules codes
+pub codes_rules : (codes : List (List Instr)) → All IsCode codes → AllByRecursion KeepsRules codes
 codes_rules codes rules = recursion_from_All KeepsRules codes (λ k d lt. recursion_from_All (IsInstr (length (get_or codes k d))) (get_or codes k d) (rules k d lt).each)
 
-codes_short : (codes : List (List Instr)) → All IsCode codes → list_all is_short_code codes ≡ true
+pub codes_short : (codes : List (List Instr)) → All IsCode codes → list_all is_short_code codes ≡ true
 codes_short codes rules = list_all-from_AllPass is_short_code codes (λ k d lt. not_from_false _ (le-ltb 4096 _ (rules k d lt).short))
 
 two_pass : (a b : Bool) (rest : Option ImageFault) → cond (not a) (Some (whole_fault kind.Counts)) (cond (not b) (Some (whole_fault kind.Counts)) rest) ≡ None → (a ≡ true) × (b ≡ true) × (rest ≡ None)

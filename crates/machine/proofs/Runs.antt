@@ -16,14 +16,17 @@ use Rattle.machine.specs.Runs.{state_from, state_after, threads_of}
 use Rattle.machine.proofs.Local.{run_on-stop}
 use Rattle.machine.proofs.Rests.{settled-settles, settled-some, settled-none}
 
+-- after a memory step nothing is pending
 took-pending : (s : State) (found : Option Cell) → (took s found).pending ≡ None
 took-pending s None = refl
 took-pending s (Some cell) = refl
 
+-- a memory step is counted
 took-steps : (s : State) (found : Option Cell) → (took s found).steps ≡ s.steps + 1
 took-steps s None = refl
 took-steps s (Some cell) = refl
 
+-- a memory step leaves the thread
 took-thread : (s : State) (found : Option Cell) → (took s found).thread ≡ s.thread
 took-thread s None = refl
 took-thread s (Some cell) = refl
@@ -47,6 +50,7 @@ pub record Stands (p : ProgramValue) (limits : LimitsValue) (t count : ℕ) (s :
   pub room : has_ended wanted ≡ false → count < limits.steps
   pub past : length p.threads ≤ t → has_ended wanted ≡ true
 
+-- so stands a settled state
 settled-stands : (p : ProgramValue) (limits : LimitsValue) (full : Bool) (s : State) → s.pending ≡ None → Stands p limits s.thread s.steps (settled p limits full s)
 settled-stands p limits full s h =
     let t = settled-settles p limits full s h in
@@ -63,6 +67,7 @@ settled-stands p limits full s h =
           ap has_ended w;
     }
 
+-- so stands the state after more steps
 pub state_from-stands : (p : ProgramValue) (limits : LimitsValue) (earlier : List Step) (s : State) (steps : List Step) → s.pending ≡ None →
     Stands p limits s.thread (s.steps + length steps) (state_from p limits earlier s steps)
 state_from-stands p limits earlier s [] h =
@@ -79,6 +84,7 @@ state_from-stands p limits earlier s (step ∷ steps) h =
     let Q : ℕ → Type 0 = λ k. Stands p limits (took here step.found).thread k (state_from p limits (earlier ++ step ∷ []) (took here step.found) steps) in
     subst P e (subst Q n (state_from-stands p limits (earlier ++ step ∷ []) (took here step.found) steps (took-pending here step.found)))
 
+-- so stands the state after these steps
 pub state_after-stands : (p : ProgramValue) (limits : LimitsValue) (t : ℕ) (steps : List Step) → Stands p limits t (length steps) (state_after p limits t steps)
 state_after-stands p limits t steps =
     let P : ℕ → Type 0 = λ n. Stands p limits t n (state_after p limits t steps) in
@@ -88,30 +94,37 @@ state_after-stands p limits t steps =
 wanted_of : (p : ProgramValue) (limits : LimitsValue) (t : ℕ) (steps : List Step) → threads_of p limits t steps ≡ (state_after-stands p limits t steps).wanted
 wanted_of p limits t steps = ap (want_or (want.Ended end.Halted)) (state_after-stands p limits t steps).pending
 
+-- no thread asks for a word that the program does not have
 pub stays_within : (p : ProgramValue) (limits : LimitsValue) → StaysWithin (threads_of p limits) (length p.words)
 stays_within p limits t steps h =
     let e = wanted_of p limits t steps in
     let P : Want → Type 0 = λ w. word_of w < length p.words in
     subst P (sym e) ((state_after-stands p limits t steps).word (sym (ap has_ended e) ∙ h))
 
+-- a thread that the program does not have has ended
 pub has_only : (p : ProgramValue) (limits : LimitsValue) → HasOnly (threads_of p limits) (length p.threads)
 has_only p limits t steps over = ap has_ended (wanted_of p limits t steps) ∙ (state_after-stands p limits t steps).past over
 
+-- what is not false is true
 true_or : (b : Bool) → (b ≡ false → ⊥) → b ≡ true
 true_or true h = refl
 true_or false h = absurd (h refl)
 
+-- no thread takes more steps than the limit says
 pub ends_within : (p : ProgramValue) (limits : LimitsValue) → EndsWithin (threads_of p limits) limits.steps
 ends_within p limits t steps over =
     ap has_ended (wanted_of p limits t steps) ∙
     true_or _ (λ lives. let r = (state_after-stands p limits t steps).room lives in absurd (omega (arith, r)))
 
+-- a state counts the steps that led to it
 pub counts_steps : (p : ProgramValue) (limits : LimitsValue) (t : ℕ) (steps : List Step) → (state_after p limits t steps).steps ≡ length steps
 counts_steps p limits t steps = (state_after-stands p limits t steps).steps
 
+-- a state is one of its thread
 pub keeps_thread : (p : ProgramValue) (limits : LimitsValue) (t : ℕ) (steps : List Step) → (state_after p limits t steps).thread ≡ t
 keeps_thread p limits t steps = (state_after-stands p limits t steps).thread
 
+-- one more step, from any state
 state_from-push : (p : ProgramValue) (limits : LimitsValue) (earlier : List Step) (s : State) (steps : List Step) (step : Step) →
     state_from p limits earlier s (steps ++ step ∷ []) ≡ settled p limits (is_full limits.entries (earlier ++ (steps ++ step ∷ []))) (took (state_from p limits earlier s steps) step.found)
 state_from-push p limits earlier s [] step = refl
@@ -125,6 +138,7 @@ pub after_step : (p : ProgramValue) (limits : LimitsValue) (t : ℕ) (steps : Li
     state_after p limits t (steps ++ step ∷ []) ≡ settled p limits (is_full limits.entries (steps ++ step ∷ [])) (took (state_after p limits t steps) step.found)
 after_step p limits t steps step = state_from-push p limits [] (first_state t) steps step
 
+-- something is pending
 some_pending : (o : Option Want) (w : Want) → o ≡ Some w → IsSome o
 some_pending None w h = cc
 some_pending (Some x) w h = refl

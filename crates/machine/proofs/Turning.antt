@@ -17,6 +17,7 @@ use Rattle.machine.proofs.Local.{goes_on, run_on-more, run_on-stop, run_on-follo
 abbrev gone : State → List ℕ → ℕ → List ℕ → State
 gone old registers place output = record old { registers = registers; place = place; output = output; instr = old.instr + 1 }
 
+-- what a turn that goes on says
 next_of : (words : ℕ) (limits : LimitsValue) (full : Bool) (i : Instr) (old : State) (t : Turn) (next : ℕ) (registers output : List ℕ) → t ≡ turn.Next next →
     Turns words limits full i old t registers output → (comes_to words limits full old (Some i) ≡ None) × (ran i.op old i ≡ gone old registers next output)
 next_of words limits full i old t next registers output e h = let P : Turn → Type 0 = λ u. Turns words limits full i old u registers output in subst P e h
@@ -65,6 +66,7 @@ begins-on first middle list a b =
     let l = begins-long first middle a in
     sym (take-take (length first) (length middle) list l) ∙ ap (take (length first)) b ∙ a
 
+-- what holds, holds on an error
 pub on_err : {T E P : Type 0} (r : Result T E) → P → OnErr r P
 on_err (Ok x) p = tt
 on_err (Err e) p = p

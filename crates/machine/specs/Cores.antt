@@ -151,6 +151,7 @@ run_local (suc n) code words limits full s =
 unfoldable pub run_on : List Instr → ℕ → LimitsValue → Bool → State → State
 run_on code words limits full s = run_local ((limits.instr - s.instr) + 1) code words limits full s
 
+-- the state itself where something is pending, and else the next one
 abbrev pub if_none : Option Want → State → State → State
 if_none None s next = next
 if_none (Some wanted) s next = s

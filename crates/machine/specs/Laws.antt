@@ -3,9 +3,10 @@ use Rattle.std.specs.Prelude.{◌≡◌, ℕ, Bool, IsSome, List, [], ◌∷◌,
 use Rattle.replay_model.specs.Steps.{Step}
 use Rattle.replay_model.specs.Threads.{StaysWithin, HasOnly, EndsWithin}
 use Rattle.replay_model.specs.ThreadLogs.{is_full}
+use Rattle.replay_model.specs.KeptLimits.{KeepsLimits}
 use Rattle.machine.specs.Programs.{ProgramValue, LimitsValue}
 use Rattle.machine.specs.Cores.{State, settled, took}
-use Rattle.machine.specs.Runs.{state_after, threads_of}
+use Rattle.machine.specs.Runs.{state_after, threads_of, instructions_of}
 
 -- no thread asks for a word that the program does not have
 abbrev pub StayWithinWords : Type 0
@@ -39,3 +40,7 @@ SettleWithPending = (p : ProgramValue) (limits : LimitsValue) (full : Bool) (s :
 -- a state with something pending is settled
 abbrev pub StaySettled : Type 0
 StaySettled = (p : ProgramValue) (limits : LimitsValue) (full : Bool) (s : State) → IsSome s.pending → settled p limits full s ≡ s
+
+-- the threads keep to their limits: no run has more instructions, no read comes where the log is full, and an address is bad only where no word has it
+abbrev pub KeepToLimits : Type 0
+KeepToLimits = (p : ProgramValue) (limits : LimitsValue) → KeepsLimits (threads_of p limits) (instructions_of p limits) (length p.words) limits

@@ -24,7 +24,7 @@ state_after p limits t steps = state_from p limits [] (first_state t) steps
 abbrev pub threads_of : ProgramValue → LimitsValue → Threads
 threads_of p limits t steps = pending_want (state_after p limits t steps)
 
--- how many instructions each thread of the program has finished after its steps
+-- how many instructions each thread has finished after its steps
 abbrev pub instructions_of : ProgramValue → LimitsValue → Instructions
 instructions_of p limits t steps = (state_after p limits t steps).instr
 

@@ -304,6 +304,7 @@ impl Core {
         &self.output
     }
 
+    /// The values of its registers.
     pub fn registers(&self) -> &[u32; 16]
         ensures { result.now ≡ self.now.registers }
     {

@@ -1,18 +1,21 @@
 // Reading the image of a program.
-ghost use Rattle.std.specs.Prelude.{◌≡◌, ◌*◌, ◌≤◌, if◌then◌else◌, length, sum, Some, None, Ok, true, IfOk};
+ghost use Rattle.std.specs.Prelude.{◌≡◌, ◌≢◌, ◌*◌, ◌≤◌, if◌then◌else◌, length, sum, Some, None, Ok, true, IfOk, IfErr, IfSome, OnSome, MatchResult};
 ghost use Rattle.std.specs.List.{list_all};
 ghost use Rattle.std.specs.Int.{w16, w32};
-ghost use Rattle.machine.specs.Programs.{code_lists};
-ghost use Rattle.machine.specs.ImageReading.{Gives, after, numbers_at, threads_in, words_in, counts_fault, is_short_length, instr_at, code_at, codes_at, image_read};
+ghost use Rattle.machine.specs.Programs.{ProgramValue, IsProgram, code_lists};
+ghost use Rattle.machine.specs.declared.image_fault.ImageKind.TheVariants.{Memory};
+ghost use Rattle.machine.specs.Images.{HasNumbers, IsImage, image_of};
+ghost use Rattle.machine.specs.ImageReading.{Gives, out_of_memory, after, numbers_at, threads_in, words_in, counts_fault, is_short_length, instr_at, code_at, codes_at, image_read};
 
 use crate::image_fault::{ImageFault, ImageKind};
-use crate::program::{Instr, Op, are_counts};
+use crate::program::{Instr, Op, Program, are_counts};
 use light_base::{u16_at, u32_at};
 use std::alloc::{AllocError, Global};
 
 // The number of threads and the number of words.
 fn counts_of(bytes: &[u8]) -> Result<(usize, usize), ImageFault>
-    ensures { result ≡ after (counts_fault bytes.now) (Ok (threads_in bytes.now, words_in bytes.now)) }
+    ensures value { result ≡ after (counts_fault bytes.now) (Ok (threads_in bytes.now, words_in bytes.now)) }
+    ensures most { IfOk result (λ counts. (counts.0 ≤ 15) × (counts.1 ≤ 4096)) }
 {
     let Some(words) = u16_at(bytes, 5) else {
         return Err(ImageFault::whole(ImageKind::Short));
@@ -31,7 +34,8 @@ fn counts_of(bytes: &[u8]) -> Result<(usize, usize), ImageFault>
 // The lengths of so many codes.
 fn lengths_of(alloc: Global, count: usize, bytes: &[u8]) -> Result<Vec<u16>, AllocError>
     requires { 2 * count ≤ length bytes.now }
-    ensures { IfOk result (λ lengths. lengths.items ≡ numbers_at w16 count bytes.now) }
+    ensures value { IfOk result (λ lengths. lengths.items ≡ numbers_at w16 count bytes.now) }
+    ensures count { IfOk result (λ lengths. length lengths.items ≡ count) }
 {
     let mut lengths = Vec::with_capacity(alloc, count)?;
     for i in 0..count {
@@ -55,7 +59,9 @@ fn words_of(alloc: Global, count: usize, bytes: &[u8]) -> Result<Vec<u32>, Alloc
 // How many instructions codes of these lengths have. None where a code is too long.
 fn total_of(lengths: &[u16]) -> Option<usize>
     requires { length lengths.now ≤ 15 }
-    ensures { result ≡ (if list_all is_short_length lengths.now then Some (sum lengths.now) else None) }
+    ensures value { result ≡ (if list_all is_short_length lengths.now then Some (sum lengths.now) else None) }
+    ensures short { OnSome result (list_all is_short_length lengths.now ≡ true) }
+    ensures most { IfSome result (λ total. total ≤ 61440) }
 {
     let mut total = 0;
     for len in lengths {
@@ -154,3 +160,27 @@ fn parts_of(alloc: Global, bytes: &[u8]) -> Result<(Vec<u32>, Vec<Vec<Instr>>), 
     let words = words_of(alloc, words, &bytes[words_place..])?;
     Ok((words, codes))
 }
+
+/// The program whose image the bytes are. An `Err` is the first fault, in the order in which an image is tested: its
+/// counts, its lengths, its instructions, its end; or `Memory`, where a request for memory was refused.
+pub fn read_image(alloc: Global, bytes: &[u8]) -> Result<Program, ImageFault>
+    // What is read is spelled so.
+    ensures found { IfOk result (λ p. IsImage bytes.now p) }
+    // The image of a program is read as this program, unless memory runs out.
+    ensures only { (p : ProgramValue) → IsImage bytes.now p → MatchResult result (λ q. q ≡ p) (λ e. e ≡ out_of_memory) }
+    // Bytes that are refused are the image of no program, unless memory ran out.
+    ensures refused { IfErr result (λ e. e.kind ≢ Memory → (p : ProgramValue) → ¬ IsImage bytes.now p) }
+    // Which fault it is.
+    ensures exact { Gives (λ p. p) result (image_read bytes.now) }
+{
+    let (words, threads) = parts_of(alloc, bytes)?;
+    Ok(Program::sound(words, threads))
+}
+
+/// Two programs with the same image are equal.
+pub fn images_differ()
+    ensures { (p q : ProgramValue) → IsProgram p → HasNumbers p → IsProgram q → HasNumbers q → image_of p ≡ image_of q → p ≡ q }
+{}
+
+#[cfg(test)]
+mod tests;

@@ -1,8 +1,8 @@
 // What holds of the threads of every program.
-ghost use Rattle.machine.specs.Laws.{StayWithinWords, HaveOnlyItsThreads, EndWithinSteps, CountSteps, KeepThread, GoStepByStep, SettleWithPending, StaySettled};
+ghost use Rattle.machine.specs.Laws.{StayWithinWords, HaveOnlyItsThreads, EndWithinSteps, CountSteps, KeepThread, GoStepByStep, SettleWithPending, StaySettled, KeepToLimits};
 
-/// The threads of every program stay within its words, are no more than it has, and end within the limit of steps;
-/// the state after one more step follows from the state before it.
+/// The threads of every program stay within its words, are no more than it has, end within the limit of steps, and keep
+/// to their limits; the state after one more step follows from the state before it.
 pub fn machine_law()
     ensures within { StayWithinWords }
     ensures only { HaveOnlyItsThreads }
@@ -12,4 +12,5 @@ pub fn machine_law()
     ensures step { GoStepByStep }
     ensures pending { SettleWithPending }
     ensures stays { StaySettled }
+    ensures keeps { KeepToLimits }
 {}

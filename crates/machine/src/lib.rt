@@ -8,6 +8,7 @@ mod laws;
 mod program;
 
 pub use crate::cores::{Core, RunReport};
+pub use crate::image::{images_differ, read_image};
 pub use crate::image_fault::{ImageFault, ImageKind};
 pub use crate::laws::machine_law;
 pub use crate::program::{Instr, Limits, Op, Program};

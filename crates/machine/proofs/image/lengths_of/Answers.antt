@@ -12,4 +12,7 @@ pub loop-i-preserved : goal.loop-i-preserved
 loop-i-preserved c =
     let place : 2 * c.loop-i.i ≡ c.loop-i.i * 2 = omega arith in
     let more = numbers_more w16 c.loop-i.i (2 * c.loop-i.i) c.args.bytes.now c.unwrap.result place (sym c.u16_at.ensures.value ∙ c.unwrap.ensures) in
-    c.in_ok-push.ensures.items ∙ ap (λ (xs : List ℕ). xs ++ c.unwrap.result ∷ []) c.loop-i.invariant ∙ sym more
+    record {
+      read = c.in_ok-push.ensures.items ∙ ap (λ (xs : List ℕ). xs ++ c.unwrap.result ∷ []) c.loop-i.invariant.read ∙ sym more;
+      count = search rules;
+    }

@@ -1,4 +1,5 @@
 use Rattle.machine.proofs.laws.machine_law.Goals as goal
+use Rattle.machine.proofs.Keeping.{keeps_limits}
 use Rattle.machine.proofs.Runs.{stays_within, has_only, ends_within, counts_steps, keeps_thread, after_step, settled_pending, settled_stays}
 
 pub returns : goal.returns
@@ -11,4 +12,5 @@ returns c = record {
   step = after_step;
   pending = settled_pending;
   stays = settled_stays;
+  keeps = keeps_limits;
 }
