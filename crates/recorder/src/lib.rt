@@ -7,3 +7,4 @@ mod thread_logs;
 mod turns;
 
 pub use recorded::Recorded;
+pub use turns::record_turns;

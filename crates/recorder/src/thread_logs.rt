@@ -7,7 +7,7 @@ use light_base::Memory;
 use machine::RunReport;
 use std::alloc::Global;
 
-// The log of a thread with these entries.
+// The log of a thread with these entries and this report.
 fn thread_log(entries: Vec<Entry>, report: &RunReport) -> ThreadLog
     ensures { result ≡ log_by entries.items report.now }
 {
@@ -15,7 +15,11 @@ fn thread_log(entries: Vec<Entry>, report: &RunReport) -> ThreadLog
 }
 
 // The logs of all threads.
-pub(crate) fn thread_logs(alloc: Global, all: Vec<Vec<Entry>>, reports: &[RunReport]) -> Result<Vec<ThreadLog>, Memory>
+pub(crate) fn thread_logs(
+    alloc: Global,
+    all: Vec<Vec<Entry>>,
+    reports: &[RunReport],
+) -> Result<Vec<ThreadLog>, Memory>
     requires { length all.items ≡ length reports.now }
     ensures { IfOk result (λ logs. logs.items ≡ logs_by (entry_lists all.items) reports.now) }
 {
