@@ -90,6 +90,20 @@ pub RiseAbove-accesses_from : (n : ℕ) (steps : List Step) → RiseAbove n (acc
 RiseAbove-accesses_from n [] = tt
 RiseAbove-accesses_from n (step ∷ steps) = (omega arith, RiseAbove-accesses_from (n + 1) steps)
 
+-- the last number; n where there is none
+abbrev pub last_step : ℕ → List Access → ℕ
+last_step n [] = n
+last_step n (access ∷ accesses) = last_step access.step accesses
+
+-- numbers rise on with a greater one
+pub RiseAbove-push : (n : ℕ) (accesses : List Access) (access : Access) → RiseAbove n accesses → last_step n accesses < access.step → RiseAbove n (accesses ++ access ∷ [])
+RiseAbove-push n [] access rise more = (more, tt)
+RiseAbove-push n (a ∷ accesses) access rise more = (rise.0, RiseAbove-push a.step accesses access rise.1 more)
+
+pub last_step-push : (n : ℕ) (accesses : List Access) (access : Access) → last_step n (accesses ++ access ∷ []) ≡ access.step
+last_step-push n [] access = refl
+last_step-push n (a ∷ accesses) access = last_step-push a.step accesses access
+
 -- numbers that rise do so up to each of them
 pub RiseAbove-take : (n k : ℕ) (accesses : List Access) → RiseAbove n accesses → RiseAbove n (take k accesses)
 RiseAbove-take n zero accesses rise = tt
@@ -108,7 +122,7 @@ steps_after-push n (a ∷ accesses) access rise =
     let (k, same, number) = steps_after-push a.step accesses access rise.1 in
     let front : List Step = quiet (a.step - n - 1) in
     let long : length (front ++ step_of a ∷ steps_after a.step accesses) ≡ a.step - n - 1 + (1 + length (steps_after a.step accesses)) =
-      length-append front (step_of a ∷ steps_after a.step accesses) ∙ omega (arith, length-quiet (a.step - n - 1)) in
+    length-append front (step_of a ∷ steps_after a.step accesses) ∙ omega (arith, length-quiet (a.step - n - 1)) in
     (k, ap (λ (steps : List Step). front ++ step_of a ∷ steps) same ∙ sym (append_assoc front (step_of a ∷ steps_after a.step accesses) (quiet k ++ step_of access ∷ [])), omega (arith, rise.0, number, long))
 
 -- steps that read nothing change no log

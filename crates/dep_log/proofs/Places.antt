@@ -138,9 +138,9 @@ with_read-new find entries finds word tag n none =
 pub FindsEntries-set : (find : Sighting → Option ℕ) (entries : List Entry) (place : ℕ) (old new : Entry) → FindsEntries find entries →
     old ≡ get_or entries place old → sighting_of new ≡ sighting_of old → FindsEntries find (set entries place new)
 FindsEntries-set find entries place old new finds is stands = record {
-    each = λ k d l. let within : k < length entries = omega (arith, length-set entries place new) in ap find (at k d within (cases_eq k place)) ∙ finds.each k d within;
-    only = λ q k d found. let before = finds.only q k d found in (omega (arith, before.0, length-set entries place new), at k d before.0 (cases_eq k place) ∙ before.1);
-  }
+  each = λ k d l. let within : k < length entries = omega (arith, length-set entries place new) in ap find (at k d within (cases_eq k place)) ∙ finds.each k d within;
+  only = λ q k d found. let before = finds.only q k d found in (omega (arith, before.0, length-set entries place new), at k d before.0 (cases_eq k place) ∙ before.1);
+}
   where
     at : (k : ℕ) (d : Entry) → k < length entries → (k ≡ place) ⊎ (k ≢ place) → sighting_of (get_or (set entries place new) k d) ≡ sighting_of (get_or entries k d)
     at k d l (inl e) =
@@ -153,9 +153,9 @@ FindsEntries-set find entries place old new finds is stands = record {
 pub FindsEntries-push : (before after : Sighting → Option ℕ) (entries : List Entry) (new : Entry) → FindsEntries before entries → before (sighting_of new) ≡ None →
     ((q : Sighting) → after q ≡ cond (same_sighting (sighting_of new) q) (Some (length entries)) (before q)) → FindsEntries after (entries ++ new ∷ [])
 FindsEntries-push before after entries new finds none knows = record {
-    each = λ k d l. each k d l (cases_lt k (length entries));
-    only = λ q k d found. only q k d found (cases_Bool (same_sighting (sighting_of new) q));
-  }
+  each = λ k d l. each k d l (cases_lt k (length entries));
+  only = λ q k d found. only q k d found (cases_Bool (same_sighting (sighting_of new) q));
+}
   where
     same : (q : Sighting) → same_sighting (sighting_of new) q ≡ true → after q ≡ Some (length entries)
     same q t = knows q ∙ cond-true _ (Some (length entries)) (before q) t

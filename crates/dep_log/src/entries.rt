@@ -34,14 +34,26 @@ pub fn entries_of(alloc: Global, accesses: &[Access]) -> Result<Vec<Entry>, Memo
     let mut places = HashMap::new(alloc);
     for access in accesses {
         if let Some(cell) = access.saw {
-            add_read(access.word, cell.tag, access.step, &mut entries, &mut places)?;
+            add_read(
+                access.word,
+                cell.tag,
+                access.step,
+                &mut entries,
+                &mut places,
+            )?;
         }
     }
     Ok(entries)
 }
 
 // Adds that a step found this tag in this word to the entries of the steps before it.
-fn add_read(word: u16, source: Tag, step: u32, entries: &mut Vec<Entry>, places: &mut Places) -> Result<(), Memory>
+fn add_read(
+    word: u16,
+    source: Tag,
+    step: u32,
+    entries: &mut Vec<Entry>,
+    places: &mut Places,
+) -> Result<(), Memory>
     requires { FindsEntries (get same_sighting places.old) entries.old.items }
     ensures entries { OnOk result (entries.new.items ≡ with_read word source step entries.old.items) }
     ensures places { OnOk result (FindsEntries (get same_sighting places.new) entries.new.items) }

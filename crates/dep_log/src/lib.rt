@@ -9,3 +9,6 @@ pub use entries::entries_of;
 pub use replay_model::Entry;
 pub use run_log::RunLog;
 pub use thread_log::ThreadLog;
+
+#[cfg(test)]
+mod tests;

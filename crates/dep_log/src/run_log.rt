@@ -31,7 +31,12 @@ impl Model for RunLog {
 
 impl RunLog {
     /// The log with these parts.
-    pub fn new(digest: [u8; 32], limits: Limits, threads: Vec<ThreadLog>, finals: Vec<Tag>) -> RunLog
+    pub fn new(
+        digest: [u8; 32],
+        limits: Limits,
+        threads: Vec<ThreadLog>,
+        finals: Vec<Tag>,
+    ) -> RunLog
         requires { IsRunLog (record { digest = digest; limits = record { steps = limits.steps; instr = limits.instr; entries = limits.entries }; threads = threads.items; lasts = finals.items }) }
         ensures { result ≡ record { digest = digest; limits = record { steps = limits.steps; instr = limits.instr; entries = limits.entries }; threads = threads.items; lasts = finals.items } }
     {

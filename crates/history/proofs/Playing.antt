@@ -1,23 +1,20 @@
 -- The state of a plain machine, after a thread ran and after it took a step.
-use Rattle.std.proofs.Common.{◌≡◌, ℕ, ◌+◌, ◌<◌, ◌≤◌, Bool, true, false, List, [], ◌∷◌, ◌++◌, length, refl, sym, ◌∙◌, ap, subst, arith, inl, inr, ◌⊎◌}
-use Rattle.std.specs.Prelude.{Option, Some, None, slice_index_or, slice_set}
+use Rattle.std.proofs.Common.{◌≡◌, ℕ, ◌+◌, ◌<◌, ◌≤◌, true, false, List, [], ◌∷◌, ◌++◌, length, refl, sym, ◌∙◌, ap, subst, arith, inl, inr, ◌⊎◌}
+use Rattle.std.specs.Prelude.{slice_index_or, slice_set}
 use Rattle.std.proofs.lemmas.List.{length-set, get_or-set_same, get_or-set_other, get_or_append_left, length_push, length-map, length-replicate}
 use Rattle.std.proofs.Math.Seq.{get_or-append_seam}
 use Rattle.std.proofs.lemmas.Bool.{cases_eq, cases_lt}
-use Rattle.replay_model.specs.declared.Access.{Access}
-use Rattle.replay_model.specs.declared.Want.{Want}
-use Rattle.replay_model.specs.Steps.{Event, Cell, Step, word_of, wrote, has_ended, found_in, put, initial_cells}
-use Rattle.replay_model.specs.Histories.{World, steps_of, step_in, play, move, keep_all, IsLegal}
-use Rattle.replay_model.proofs.Moves.{move_shape, set_here, set_there, each_thread, opening_steps}
+use Rattle.replay_model.specs.Steps.{Cell, Step, word_of, wrote, has_ended, found_in, put, initial_cells}
+use Rattle.replay_model.specs.Histories.{World, steps_of, play, keep_all, IsLegal}
+use Rattle.replay_model.proofs.Moves.{move_shape, set_here, set_there, opening_steps}
 use Rattle.replay_model.proofs.Plays.{play-push, play_count, play_memory, legal-push}
-use Rattle.machine.specs.Programs.{ProgramValue, LimitsValue, IsProgram, AreLimits}
-use Rattle.machine.specs.Cores.{State, settled}
-use Rattle.machine.specs.Runs.{state_after, threads_of, start_of}
-use Rattle.machine.proofs.Runs.{stays_within, ends_within, keeps_thread}
+use Rattle.machine.specs.Programs.{ProgramValue, LimitsValue, IsProgram}
+use Rattle.machine.specs.Runs.{start_of}
+use Rattle.machine.proofs.Runs.{ends_within}
 use Rattle.history.specs.declared.seat.Seat.{Seat}
-use Rattle.history.specs.Played.{Played, unplayed, threads_in, world_of, thread_steps, wanted_by, next_step, next_access, after_step}
-use Rattle.history.specs.Playing.{run_core, IsFresh, AreFresh, IsSeat, IsPlaying, Takes, Keeps}
-use Rattle.history.proofs.Seats.{run_core-settled, ran-wants, ran-seat, taken-seat, kept-seat, fresh-seat}
+use Rattle.history.specs.Played.{Played, unplayed, threads_in, world_of, thread_steps, wanted_by, next_step, after_step}
+use Rattle.history.specs.Playing.{IsFresh, AreFresh, IsSeat, IsPlaying}
+use Rattle.history.proofs.Seats.{fresh-seat}
 
 -- a play keeps the number of threads and of words
 pub threads_count : (played : Played) → length (world_of played).threads ≡ length played.program.threads

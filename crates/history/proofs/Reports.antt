@@ -1,5 +1,5 @@
 -- What the threads report once all have ended.
-use Rattle.std.proofs.Common.{◌≡◌, ℕ, suc, ◌+◌, ◌<◌, Bool, true, false, List, [], ◌∷◌, length, map, refl, sym, ◌∙◌, ap, subst, arith}
+use Rattle.std.proofs.Common.{◌≡◌, ℕ, suc, ◌+◌, ◌<◌, true, List, [], ◌∷◌, length, map, refl, ◌∙◌, ap, arith}
 use Rattle.std.specs.Prelude.{Option, Some, None, IsSome, option_and_then, slice_index_or}
 use Rattle.std.specs.List.{range_with_len}
 use Rattle.replay_model.specs.Steps.{has_ended}
@@ -7,7 +7,7 @@ use Rattle.replay_model.specs.declared.End.TheVariants as end
 use Rattle.replay_model.specs.declared.Want.{Want}
 use Rattle.replay_model.specs.declared.Want.TheVariants as want
 use Rattle.replay_model.specs.Steps.{Cell}
-use Rattle.machine.specs.Cores.{State, Report, want_or, end_of, report_of}
+use Rattle.machine.specs.Cores.{State, want_or, end_of, report_of}
 use Rattle.machine.specs.Runs.{state_after, reports_of}
 use Rattle.machine.proofs.Runs.{settled_pending}
 use Rattle.history.specs.declared.seat.Seat.{Seat}

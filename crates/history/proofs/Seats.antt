@@ -1,12 +1,12 @@
 -- What is kept of one thread, after it ran and after it took a step.
-use Rattle.std.proofs.Common.{◌≡◌, ℕ, ◌+◌, ◌<◌, Bool, true, false, cond, List, [], ◌∷◌, ◌++◌, length, refl, sym, ◌∙◌, ap, subst, arith, add-zero}
-use Rattle.std.specs.Prelude.{Option, Some, None, ◌||◌, nat_le, IsSome}
+use Rattle.std.proofs.Common.{◌≡◌, ℕ, ◌+◌, Bool, cond, List, [], ◌∷◌, ◌++◌, length, refl, sym, ◌∙◌, ap, arith, add-zero}
+use Rattle.std.specs.Prelude.{Option, Some, None, ◌||◌, nat_le}
 use Rattle.replay_model.specs.declared.Access.{Access}
 use Rattle.replay_model.specs.declared.Want.{Want}
 use Rattle.replay_model.specs.declared.Want.TheVariants as want
 use Rattle.replay_model.specs.declared.End.TheVariants as end
 use Rattle.replay_model.specs.Steps.{Tag, Cell, Step, word_of, access_of, accesses_from}
-use Rattle.replay_model.specs.ThreadLogs.{saw, is_sight, thread_log, is_full}
+use Rattle.replay_model.specs.ThreadLogs.{is_sight, thread_log, is_full}
 use Rattle.replay_model.proofs.Accesses.{accesses_from-push}
 use Rattle.replay_model.proofs.Sights.{log_length-read, log_length-quiet, has_seen-push}
 use Rattle.machine.specs.Programs.{ProgramValue, LimitsValue}
@@ -15,7 +15,7 @@ use Rattle.machine.specs.Runs.{state_after, threads_of}
 use Rattle.machine.proofs.Runs.{counts_steps, after_step, settled_pending, settled_stays}
 use Rattle.history.specs.declared.seat.Seat.{Seat}
 use Rattle.history.specs.declared.seat.Sighting.{Sighting}
-use Rattle.history.specs.Sightings.{has_pair, has_seen, new_pairs, Sees}
+use Rattle.history.specs.Sightings.{has_pair, has_seen, new_pairs}
 use Rattle.history.specs.Playing.{run_core, IsFresh, IsSeat, Takes, Keeps}
 
 -- it comes to what its steps made of it

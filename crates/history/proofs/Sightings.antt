@@ -1,5 +1,5 @@
 -- A set of sightings with one more.
-use Rattle.std.proofs.Common.{◌≡◌, ℕ, ◌+◌, Bool, true, false, cond, eqb, nat_eq, List, [], ◌∷◌, length, refl, sym, ◌∙◌, ap, add-zero}
+use Rattle.std.proofs.Common.{◌≡◌, ℕ, ◌+◌, Bool, true, false, cond, eqb, List, [], ◌∷◌, length, refl, sym, ◌∙◌, ap, add-zero}
 use Rattle.std.specs.Prelude.{Option, Some, None, ◌||◌, ◌&&◌, not}
 use Rattle.std.specs.Option.{option_eq}
 use Rattle.std.specs.List.{list_any}

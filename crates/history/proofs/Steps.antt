@@ -1,13 +1,13 @@
 -- A step of a plain machine, from what its calls say.
-use Rattle.std.proofs.Common.{◌≡◌, ℕ, ◌+◌, ◌<◌, ◌≤◌, Bool, true, false, List, [], ◌∷◌, ◌++◌, length, refl, sym, ◌∙◌, ap, subst, arith, take, drop}
-use Rattle.std.specs.Prelude.{Option, Some, None, slice_index_or, slice_set}
+use Rattle.std.proofs.Common.{◌≡◌, ℕ, ◌+◌, ◌<◌, false, List, [], ◌∷◌, ◌++◌, length, refl, sym, ◌∙◌, ap, subst, arith, take, drop}
+use Rattle.std.specs.Prelude.{Option, Some, slice_index_or, slice_set}
 use Rattle.std.proofs.lemmas.List.{length-set, get_or-set_same, take_all, drop_all, append-nil}
 use Rattle.light_base.specs.Tags.{HasTag}
 use Rattle.replay_model.specs.declared.Access.{Access}
 use Rattle.replay_model.specs.declared.End.{End}
 use Rattle.replay_model.specs.declared.Want.{Want}
 use Rattle.replay_model.specs.declared.Want.TheVariants as want
-use Rattle.replay_model.specs.Steps.{Event, Cell, Step, word_of, wrote, has_ended, found_in, put, access_of}
+use Rattle.replay_model.specs.Steps.{Cell, Step, word_of, wrote, has_ended, found_in, put, access_of}
 use Rattle.replay_model.specs.Histories.{step_in}
 use Rattle.machine.specs.Programs.{AreLimits}
 use Rattle.machine.specs.Cores.{State}

@@ -5,16 +5,14 @@ use Rattle.std.proofs.lemmas.List.{append-nil}
 use Rattle.replay_model.specs.Steps.{has_ended}
 use Rattle.replay_model.specs.Threads.{Threads}
 use Rattle.replay_model.specs.declared.End.{End}
-use Rattle.replay_model.specs.declared.Want.TheVariants as want
 use Rattle.replay_model.specs.Histories.{World, IsWhole, play, history_of, round_turns}
 use Rattle.replay_model.proofs.Plays.{play-append, play-history_of, history_of-append}
 use Rattle.replay_model.proofs.Rounds.{round_turns-append, round_turns-more, rounds_idle, rounds_whole}
-use Rattle.machine.specs.Programs.{ProgramValue, LimitsValue}
-use Rattle.machine.specs.Runs.{threads_of, start_of, rounds_of}
+use Rattle.machine.specs.Runs.{start_of, rounds_of}
 use Rattle.machine.proofs.Runs.{has_only, ends_within}
 use Rattle.history.specs.declared.plain.Stepped.{Stepped}
 use Rattle.history.specs.declared.plain.Stepped.TheVariants.{Took, Ended}
-use Rattle.history.specs.Played.{Played, unplayed, threads_in, world_of, wanted_by, after_step, steps_in, after_turns, HasBegun, IsOver}
+use Rattle.history.specs.Played.{Played, threads_in, world_of, wanted_by, steps_in, after_turns, HasBegun, IsOver}
 use Rattle.history.specs.Stepping.{IsStep}
 use Rattle.history.proofs.Playing.{threads_count}
 

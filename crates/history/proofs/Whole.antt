@@ -1,8 +1,8 @@
 -- Turns make whole histories of a program.
-use Rattle.std.proofs.Common.{◌≡◌, ℕ, List, [], ◌++◌, length, sym, ◌∙◌, ap, subst}
+use Rattle.std.proofs.Common.{◌≡◌, ℕ, List, [], ◌++◌, length, sym, ◌∙◌, subst}
 use Rattle.std.proofs.lemmas.List.{length-replicate}
 use Rattle.replay_model.specs.Steps.{Step}
-use Rattle.replay_model.specs.Histories.{World, IsWhole, play, history_of, round_turns}
+use Rattle.replay_model.specs.Histories.{World, IsWhole, play, round_turns}
 use Rattle.replay_model.proofs.Plays.{play-append, play_count, play-history_of, history_of-legal}
 use Rattle.replay_model.proofs.Rounds.{rounds_whole}
 use Rattle.machine.specs.Programs.{ProgramValue, LimitsValue}

@@ -1,6 +1,6 @@
 -- The bytes of a log. Numbers stand with their highest byte first.
-use Rattle.std.specs.Prelude.{ℕ, List, [], ◌∷◌, ◌++◌, length}
-use Rattle.std.specs.List.{flat_map}
+use Rattle.std.specs.Prelude.{ℕ, ◌+◌, ◌*◌, List, [], ◌∷◌, ◌++◌, length}
+use Rattle.std.specs.List.{flat_map, sum_by}
 use Rattle.std.specs.Int.{w16, w32, to_be_bytes}
 use Rattle.light_base.specs.Tags.{bits_of}
 use Rattle.replay_model.specs.Steps.{Tag}
@@ -54,3 +54,11 @@ head_bytes log = magic ++ length log.threads ∷ [] ++ to_be_bytes w16 (length l
 -- the head, a header for each thread, the last tag of each word, and the entries, thread after thread
 unfoldable pub spelling : Log → List ℕ
 spelling log = head_bytes log ++ flat_map header_bytes log.threads ++ flat_map tag_bytes log.lasts ++ flat_map entries_bytes log.threads
+
+-- how many entries all threads have
+abbrev pub entry_count : List ThreadLog → ℕ
+entry_count threads = sum_by (λ (t : ThreadLog). length t.entries) threads
+
+-- how many bytes the text of a log has
+abbrev pub text_len : Log → ℕ
+text_len log = 51 + 17 * length log.threads + 4 * length log.lasts + 14 * entry_count log.threads

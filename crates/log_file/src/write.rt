@@ -1,8 +1,8 @@
 // The bytes of a log.
 ghost use Rattle.std.specs.Prelude.{◌≡◌, ◌+◌, ◌*◌, ◌≤◌, ◌++◌, All, IfOk, OnOk, length};
-ghost use Rattle.std.specs.List.{flat_map, sum_by};
+ghost use Rattle.std.specs.List.{flat_map};
 ghost use Rattle.dep_log.specs.RunLogs.{IsRunLog};
-ghost use Rattle.log_file.specs.Spelling.{address_of_end, code_of_end, entries_bytes, entry_bytes, head_bytes, header_bytes, limits_bytes, spelling, tag_bytes};
+ghost use Rattle.log_file.specs.Spelling.{address_of_end, code_of_end, entries_bytes, entry_count, entry_bytes, head_bytes, header_bytes, limits_bytes, spelling, tag_bytes, text_len};
 
 use dep_log::{Entry, RunLog, ThreadLog};
 use light_base::{Memory, Tag, put_u16, put_u32};
@@ -13,9 +13,9 @@ use std::alloc::Global;
 const MAGIC: [u8; 4] = *b"LLG1";
 
 /// The one text of a log.
-#[tactic(auto, unfolding(crate::specs::Spelling::spelling))]
 pub fn write_log(alloc: Global, log: &RunLog) -> Result<Vec<u8>, Memory>
-    ensures { IfOk result (λ bytes. bytes.items ≡ spelling log.now) }
+    ensures value { IfOk result (λ bytes. bytes.items ≡ spelling log.now) }
+    ensures len { IfOk result (λ bytes. length log.now.digest ≡ 32 → length bytes.items ≡ text_len log.now) }
 {
     let mut out = Vec::with_capacity(alloc, text_len(log))?;
     put_head(&mut out, log)?;
@@ -26,7 +26,9 @@ pub fn write_log(alloc: Global, log: &RunLog) -> Result<Vec<u8>, Memory>
 }
 
 // How many bytes the text of a log has.
-fn text_len(log: &RunLog) -> usize {
+fn text_len(log: &RunLog) -> usize
+    ensures { result ≡ text_len log.now }
+{
     51 + 17 * log.threads().len() + 4 * log.finals().len() + 14 * entry_count(log.threads())
 }
 
@@ -34,7 +36,8 @@ fn text_len(log: &RunLog) -> usize {
 fn entry_count(threads: &[ThreadLog]) -> usize
     requires few { length threads.now ≤ 15 }
     requires short { All (λ thread. length thread.entries ≤ 16384) threads.now }
-    ensures { result ≤ 16384 * length threads.now }
+    ensures value { result ≡ entry_count threads.now }
+    ensures bound { result ≤ 16384 * length threads.now }
 {
     let mut count = 0;
     for thread in threads {

@@ -1,8 +1,7 @@
 -- Two programs and the bytes of their images, and their readings.
-use Rattle.std.proofs.Common.{◌≡◌, ℕ, List, [], ◌∷◌, Ok, Err, refl}
+use Rattle.std.proofs.Common.{◌≡◌, ℕ, List, [], ◌∷◌, Ok, refl}
 use Rattle.machine.specs.Programs.{Instr, ProgramValue}
 use Rattle.machine.specs.declared.program.Op.TheVariants as op
-use Rattle.machine.specs.declared.image_fault.ImageKind.TheVariants as kind
 use Rattle.machine.specs.Images.{image_of}
 use Rattle.machine.specs.ImageReading.{numbers_at, words_in, lengths_in, counts_fault, lengths_fault, instr_at, code_at, codes_at, body_of, image_read}
 
@@ -27,7 +26,7 @@ own_write_bytes =
     0x4c ∷ 0x49 ∷ 0x4d ∷ 0x31 ∷ 0x01 ∷ 0x00 ∷ 0x01 ∷ 0x00 ∷ 0x04 ∷ 0x00 ∷ 0x00 ∷ 0x00 ∷ 0x00 ∷ 0x01 ∷ 0x01 ∷ 0x00 ∷ 0x00 ∷ 0x00 ∷ 0x00 ∷ 0x00 ∷ 0x07 ∷ 0x12 ∷ 0x01 ∷ 0x00 ∷ 0x00 ∷ 0x00 ∷ 0x00 ∷ 0x00 ∷ 0x00 ∷ 0x11 ∷ 0x02 ∷ 0x00 ∷ 0x00 ∷ 0x00 ∷ 0x00 ∷ 0x00 ∷ 0x00 ∷ 0x10 ∷ 0x02 ∷ 0x00 ∷ 0x00 ∷ 0x00 ∷ 0x00 ∷ 0x00 ∷ 0x00 ∷ []
 
 image_of-own_write : image_of own_write ≡ own_write_bytes
-image_of-own_write = absurd refl
+image_of-own_write = refl
 
 image_read-own_write : image_read own_write_bytes ≡ Ok own_write
 unfolding image_read body_of counts_fault lengths_fault words_in lengths_in numbers_at codes_at code_at instr_at

@@ -1,12 +1,12 @@
 -- The numbers at the front of an image, and the first fault of its counts and lengths.
-use Rattle.std.proofs.Common.{◌≡◌, ℕ, zero, suc, ◌+◌, ◌-◌, ◌*◌, ◌<◌, ◌≤◌, Bool, true, false, cond, ltb, eqb, List, [], ◌∷◌, ◌++◌, length, take, drop, sum, slice_range, Option, Some, None, Result, Ok, Err, refl, sym, ap, ◌∙◌, arith, add-one, inl, inr}
+use Rattle.std.proofs.Common.{◌≡◌, ℕ, zero, suc, ◌+◌, ◌-◌, ◌*◌, ◌<◌, ◌≤◌, Bool, true, false, cond, eqb, List, [], ◌∷◌, ◌++◌, length, take, drop, sum, Option, Some, None, Result, Ok, Err, refl, sym, ap, ◌∙◌, arith, add-one, inl, inr}
 use Rattle.std.specs.List.{list_all, starts_with}
 use Rattle.std.specs.Int.{Width, w16, w32, byte_len, from_be_bytes}
 use Rattle.std.proofs.lemmas.Bool.{lt-ltb, le-ltb, cases_lt}
 use Rattle.std.proofs.lemmas.List.{drop-drop, take_rest}
 use Rattle.light_base.specs.Numbers.{big_endian_at}
 use Rattle.light_base.proofs.Numbers.{big_endian_at-within, big_endian_at-there}
-use Rattle.machine.specs.Programs.{Instr, ProgramValue}
+use Rattle.machine.specs.Programs.{Instr}
 use Rattle.machine.specs.Faults.{ImageKind, ImageFault, whole_fault, are_counts}
 use Rattle.machine.specs.declared.image_fault.ImageKind.TheVariants as kind
 use Rattle.machine.specs.Images.{magic}
@@ -26,12 +26,17 @@ last_number w (suc n) at bytes e =
     ap (λ (xs : List ℕ). from_be_bytes w (take k bytes) ∷ xs) (last_number w n (at - k) (drop k bytes) rest ∙ ap (λ (xs : List ℕ). numbers_at w n (drop k bytes) ++ from_be_bytes w (take k xs) ∷ []) same)
 
 -- one more number
-pub numbers_more : (w : Width) (n at : ℕ) (bytes : List ℕ) (x : ℕ) → at ≡ n * byte_len w → big_endian_at w bytes at ≡ Some x → numbers_at w (n + 1) bytes ≡ numbers_at w n bytes ++ x ∷ []
+numbers_more : (w : Width) (n at : ℕ) (bytes : List ℕ) (x : ℕ) → at ≡ n * byte_len w → big_endian_at w bytes at ≡ Some x → numbers_at w (n + 1) bytes ≡ numbers_at w n bytes ++ x ∷ []
 numbers_more w n at bytes x place e =
     let found = big_endian_at-within w bytes at x e in
     let len : at + byte_len w - at ≡ byte_len w = omega arith in
     let value : from_be_bytes w (take (byte_len w) (drop at bytes)) ≡ x = ap (λ (m : ℕ). from_be_bytes w (take m (drop at bytes))) (sym len) ∙ found.1 in
     ap (λ (m : ℕ). numbers_at w m bytes) (add-one n) ∙ last_number w n at bytes place ∙ ap (λ (y : ℕ). numbers_at w n bytes ++ y ∷ []) value
+
+-- the same, as a loop pushes it
+pub numbers_push : (w : Width) (n at : ℕ) (bytes front longer : List ℕ) (x : ℕ) → at ≡ n * byte_len w → big_endian_at w bytes at ≡ Some x → front ≡ numbers_at w n bytes → longer ≡ front ++ x ∷ [] → longer ≡ numbers_at w (n + 1) bytes
+numbers_push w n at bytes front longer x place e so_far pushed =
+    pushed ∙ ap (λ (xs : List ℕ). xs ++ x ∷ []) so_far ∙ sym (numbers_more w n at bytes x place e)
 
 -- ---- the counts
 

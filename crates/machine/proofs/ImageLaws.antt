@@ -1,22 +1,22 @@
 -- The two laws of images: what is read is spelled so, and the image of a program is read.
-use Rattle.std.proofs.Common.{◌≡◌, ◌≢◌, ◌⊎◌, ℕ, zero, suc, ◌+◌, ◌-◌, ◌*◌, ◌^◌, ◌<◌, ◌≤◌, Bool, true, false, cond, ltb, eqb, not, List, [], ◌∷◌, ◌++◌, length, take, drop, get_or, slice_range, sum, map, All, Option, Some, None, Result, Ok, Err, refl, sym, ap, subst, ◌∙◌, append_assoc, arith, inl, inr}
+use Rattle.std.proofs.Common.{◌≡◌, ◌≢◌, ◌⊎◌, ℕ, ◌+◌, ◌*◌, ◌^◌, ◌<◌, ◌≤◌, Bool, true, false, cond, ltb, eqb, not, List, [], ◌∷◌, ◌++◌, length, take, drop, get_or, sum, map, All, Option, Some, None, Result, Ok, Err, refl, sym, ap, subst, ◌∙◌, arith, inl, inr}
 use Rattle.std.specs.Prelude.{IfOk, IfErr, MatchResult}
 use Rattle.std.specs.List.{flat_map, AllByRecursion, list_all, starts_with}
 use Rattle.std.specs.Int.{w16, w32, from_be_bytes, to_be_bytes}
 use Rattle.std.proofs.lemmas.Bool.{cases_eq, ltb-false, not-false, and_parts, and_from}
 use Rattle.std.proofs.lemmas.Slice.Eq.{bytes_eq-Decides}
-use Rattle.std.proofs.lemmas.List.{append-nil, take_at, drop_at, take-append-drop, length-append, length-drop, length-map, drop-drop, drop_more, drop_all}
+use Rattle.std.proofs.lemmas.List.{append-nil, drop_at, take-append-drop, length-append, length-drop, length-map, drop-drop, drop_more, drop_all}
 use Rattle.std.proofs.lemmas.List.Elements.{All-from_recursion, recursion_from_All}
 use Rattle.std.proofs.lemmas.List.Folds.{list_all-map}
 use Rattle.std.proofs.lemmas.Nat.{from_be_bytes-to_be_bytes_2}
 use Rattle.light_base.specs.Numbers.{IsBytes}
-use Rattle.machine.specs.Programs.{Instr, ProgramValue, IsInstr, IsCode, IsProgram}
+use Rattle.machine.specs.Programs.{Instr, ProgramValue, IsProgram}
 use Rattle.machine.specs.Faults.{ImageFault, ImageKind, whole_fault, are_counts, is_count, is_short_code}
 use Rattle.machine.specs.declared.image_fault.ImageKind.TheVariants as kind
 use Rattle.machine.specs.Images.{magic, code_image, length_image, counts_image, image_of, HasNumbers, IsImage}
-use Rattle.machine.specs.ImageReading.{◌>>=◌, Gives, out_of_memory, numbers_at, codes_at, threads_in, words_in, lengths_in, words_place, codes_place, image_len, is_short_length, counts_fault, lengths_fault, after, body_of, image_read}
-use Rattle.machine.proofs.Rules.{KeepsRules, count_holds, is_count_from, codes_are, codes_rules, codes_short}
-use Rattle.machine.proofs.ImageNumbers.{IsBytes-drop, IsBytes-take, join, wide16, wide32, front_number, TakesNumbers, numbers_take, numbers_again}
+use Rattle.machine.specs.ImageReading.{Gives, out_of_memory, numbers_at, codes_at, threads_in, words_in, lengths_in, words_place, codes_place, image_len, is_short_length, counts_fault, lengths_fault, after, body_of, image_read}
+use Rattle.machine.proofs.Rules.{count_holds, is_count_from, codes_are, codes_rules, codes_short}
+use Rattle.machine.proofs.ImageNumbers.{IsBytes-drop, wide16, wide32, front_number, TakesNumbers, numbers_take, numbers_again}
 use Rattle.machine.proofs.ImageInstrs.{bind_ok, ok_is, FitsImm, TakesCodes, codes_take, codes_again, length-codes_image}
 use Rattle.machine.proofs.ImageHead.{HasLengths, HasCodes, IsHead, counts_none, lengths_in_are, image_is}
 

@@ -1,5 +1,5 @@
 -- Reading instructions and codes one after the other, as loops do.
-use Rattle.std.proofs.Common.{◌≡◌, ℕ, zero, suc, ◌+◌, ◌-◌, ◌*◌, ◌<◌, ◌≤◌, List, [], ◌∷◌, ◌++◌, length, drop, get_or, sum, Option, Some, None, Result, Ok, Err, refl, sym, ap, ◌∙◌, append_assoc, arith}
+use Rattle.std.proofs.Common.{◌≡◌, ℕ, suc, ◌+◌, ◌-◌, ◌*◌, ◌<◌, ◌≤◌, List, [], ◌∷◌, ◌++◌, length, drop, get_or, sum, Some, None, Result, Ok, Err, refl, sym, ap, ◌∙◌, append_assoc, arith}
 use Rattle.std.proofs.lemmas.List.Sums.{sum_by-cons}
 use Rattle.std.proofs.lemmas.List.{append-nil, drop-drop, drop_more, drop_all}
 use Rattle.std.specs.Int.{w32}
@@ -8,7 +8,7 @@ use Rattle.light_base.proofs.Numbers.{big_endian_at-within}
 use Rattle.machine.specs.Programs.{Instr, Op, op_of}
 use Rattle.machine.specs.Faults.{ImageKind, ImageFault, instr_fault}
 use Rattle.machine.specs.declared.image_fault.ImageKind.TheVariants as kind
-use Rattle.machine.specs.ImageReading.{◌>>=◌, kept, with_op, placed, instr_at, code_at, codes_at}
+use Rattle.machine.specs.ImageReading.{◌>>=◌, kept, with_op, instr_at, code_at, codes_at}
 
 pub sum-cons : (x : ℕ) (xs : List ℕ) → sum (x ∷ xs) ≡ x + sum xs
 sum-cons x xs = sum_by-cons (λ (n : ℕ). n) x xs

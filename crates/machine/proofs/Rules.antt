@@ -1,14 +1,14 @@
 -- A program has no fault exactly where it keeps the rules.
-use Rattle.std.proofs.Common.{◌≡◌, ◌↔◌, ℕ, zero, suc, ◌+◌, ◌<◌, ◌≤◌, Bool, true, false, not, cond, ltb, ◌&&◌, List, [], ◌∷◌, length, map, get_or, All, Option, Some, None, refl, sym, ap, subst, ◌∙◌, arith}
+use Rattle.std.proofs.Common.{◌≡◌, ℕ, ◌+◌, ◌<◌, ◌≤◌, Bool, true, false, not, cond, ltb, ◌&&◌, List, [], ◌∷◌, length, get_or, All, Option, Some, None, refl, sym, ap, ◌∙◌, arith}
 use Rattle.std.specs.Global.{Vec}
 use Rattle.std.specs.Option.{option_or}
 use Rattle.std.specs.List.{AllByRecursion, list_all}
 use Rattle.std.proofs.lemmas.Bool.{and_parts, and_from, not-true, not_from_false, ltb-true, ltb-false, lt-ltb, le-ltb}
 use Rattle.std.proofs.lemmas.List.{get_or-map, length-map}
-use Rattle.std.proofs.lemmas.List.Elements.{All-from_recursion, recursion_from_All, All-get_or}
+use Rattle.std.proofs.lemmas.List.Elements.{All-from_recursion, recursion_from_All}
 use Rattle.std.proofs.lemmas.List.Sums.{AllPass-from_list_all, list_all-from_AllPass}
 use Rattle.machine.specs.Programs.{Instr, ProgramValue, IsInstr, IsCode, IsProgram, code_lists, has_registers, has_idle_zero, has_target}
-use Rattle.machine.specs.Faults.{ImageKind, ImageFault, whole_fault, instr_fault, fault_at, code_fault, codes_fault, program_fault, is_count, is_short_code, checked}
+use Rattle.machine.specs.Faults.{ImageKind, ImageFault, whole_fault, instr_fault, fault_at, code_fault, codes_fault, program_fault, is_count, is_short_code}
 use Rattle.machine.specs.declared.image_fault.ImageKind.TheVariants as kind
 
 -- ---- counts

@@ -1,7 +1,6 @@
 -- Reading an image: the program that the bytes spell, or the first fault in the order of the tests.
 use Rattle.std.specs.Prelude.{◌≡◌, ◌≢◌, ℕ, zero, suc, ◌+◌, ◌*◌, Bool, not, nat_lt, nat_eq, if◌then◌else◌, List, [], ◌∷◌, length, take, drop, sum, slice_index, slice_range, Option, None, Some, Result, Ok, Err}
 use Rattle.std.specs.List.{list_all, starts_with}
-use Rattle.std.specs.Option.{option_or}
 use Rattle.std.specs.Int.{Width, w16, w32, byte_len, from_be_bytes}
 use Rattle.machine.specs.Programs.{Instr, Op, ProgramValue, op_of}
 use Rattle.machine.specs.Faults.{ImageFault, ImageKind, whole_fault, instr_fault, are_counts}

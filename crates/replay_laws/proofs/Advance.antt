@@ -68,9 +68,11 @@ advance initial log runs order i j world inv t k kk l step is memory sized lates
         (λ et. let d = (after e ev pl).1 et in omega (arith, len))
         (λ u n et. subst (λ (u : ℕ). length (steps_of world.threads u) < e.step) et (inv.todo e ev (after e ev pl).0)) e.thread refl
 
+-- the event after k steps is the step at k
 pub step_at-next : (runs : List (List Step)) (t k : ℕ) → step_at runs (record { thread = t; step = k + 1 }) ≡ run_step runs t k
 step_at-next runs t k = let e : (k + 1) - 1 ≡ k = omega arith in ap (λ n. run_step runs t n) e
 
+-- each event of the log is a step of its run
 pub event_inside : (initial : List ℕ) (log : Log) (runs : List (List Step)) → Told initial log runs → (e : Event) → IsEvent log e → (1 ≤ e.step) × (e.step ≤ length (steps_of runs e.thread))
 event_inside initial log runs told e (inl (inl (t, b, c, q))) = let (v, w) = told.sources t b e c q in (w.low, w.high)
 event_inside initial log runs told e (inl (inr c)) = let (word, v, l, q, w) = told.lasts e c in (w.low, w.high)

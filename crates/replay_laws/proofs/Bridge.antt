@@ -1,7 +1,8 @@
 -- A list of steps at the words, played as a history.
 use Rattle.std.proofs.Common.{◌≡◌, ℕ, ◌+◌, ◌<◌, List, [], ◌∷◌, ◌++◌, length, take, refl, sym, ◌∙◌, ap, subst, arith, false}
 use Rattle.std.specs.Prelude.{slice_index_or, Option, slice_set, All}
-use Rattle.std.proofs.lemmas.List.{append_assoc, append-nil, take_at, get_or_at, length-set, length-append, get_or-replicate, length-replicate}
+use Rattle.std.proofs.lemmas.List.{append_assoc, append-nil, take_at, get_or_at, length-set, length-append, get_or-replicate, length-replicate, same_lists, get_or_default}
+use Rattle.std.proofs.lemmas.List.FromFn.{length-map-range_with_len, get_or-map-range_with_len}
 use Rattle.std.proofs.lemmas.List.Elements.{All-head, All-tail}
 use Rattle.replay_model.specs.Steps.{Cell, Step, word_of, wrote, found_in, put, has_ended, initial_cells}
 use Rattle.replay_model.specs.Threads.{Threads, IsRun, no_step}
@@ -9,8 +10,9 @@ use Rattle.replay_model.specs.Histories.{World, steps_of, opening, step_in, move
 use Rattle.replay_model.specs.WordSteps.{WordStep, event_of, part, Folds}
 use Rattle.replay_model.proofs.Moves.{each_thread, move_shape}
 use Rattle.replay_model.proofs.WordSteps.{step_of, part-append, part_own, part_other}
-use Rattle.replay_laws.specs.BridgeLaws.{threads_in, IsPlayed}
+use Rattle.replay_laws.specs.BridgeLaws.{threads_in, parts, IsPlayed}
 
+-- the rest of a list, played from where the earlier part led
 pub bridge : (threads : Threads) (count : ℕ) (list earlier : List WordStep) (world : World) (end : List Cell) →
     length world.threads ≡ count → ((t : ℕ) → t < count → steps_of world.threads t ≡ part t earlier) →
     All (λ (e : WordStep). e.thread < count) list →
@@ -96,5 +98,14 @@ word_steps_played threads initial count list end within run folds =
         whole = λ t l. let tl : t < count = omega arith in ap (λ (x : List Step). has_ended (threads t x)) (s t tl) ∙ (run t tl).ends;
       };
       steps = s;
+      runs = runs_are (play threads (threads_in list) (opening initial count)) c s;
       memory = m;
     }
+  where
+    runs_are : (world : World) → length world.threads ≡ count → ((t : ℕ) → t < count → steps_of world.threads t ≡ part t list) → world.threads ≡ parts count list
+    runs_are world c s =
+        let n : length (parts count list) ≡ count = length-map-range_with_len (λ (t : ℕ). part t list) 0 count in
+        same_lists world.threads (parts count list) (c ∙ sym n) (λ k d l.
+        let kc : k < count = omega arith in
+        let z : 0 + k ≡ k = omega arith in
+        get_or_default world.threads k d [] l ∙ s k kc ∙ sym (get_or-map-range_with_len (λ (t : ℕ). part t list) 0 count k k d kc z))

@@ -21,6 +21,7 @@ abbrev pub IsOld : List (List Step) → List Event → World → ℕ → ℕ →
 IsOld runs all world i word cell =
     (cell ≡ slice_index_or world.memory word no_cell) × ((e : Event) (v : ℕ) → IsLater world e → HasWritten runs e word v → i ≤ place all e)
 
+-- the latest write to the word since
 pub record IsNew (runs : List (List Step)) (all : List Event) (world : World) (i word : ℕ) (cell : Cell) : Type 0 where
   pub event : Event
   pub tag : cell.tag ≡ Some event
@@ -82,6 +83,7 @@ module _ (threads : Threads) (initial : List ℕ) (count : ℕ) (within : StaysW
         λ v2 hw. n (sym hw.to ∙ ap (λ (x : Step). word_of x.want) st),
       )
 
+  -- after i more steps a cell is as it was, or that of the latest write since
   pub cell_after : (history : List ℕ) (world : World) → IsGoing threads initial count world → IsLegal threads history world → (i word : ℕ) → i ≤ length history → word < length initial →
       IsOld (play threads history world).threads (events_of threads history world) world i word (slice_index_or (play threads (take i history) world).memory word no_cell) ⊎
       IsNew (play threads history world).threads (events_of threads history world) world i word (slice_index_or (play threads (take i history) world).memory word no_cell)

@@ -18,22 +18,26 @@ move_stays threads keep t u world h = go (cases_eq u t)
         ap (λ (x : World). has_ended (wanted threads u x)) (move_ended threads keep t world s) ∙ h
     go (inr n) = ap (λ (x : List Step). has_ended (threads u x)) (move_there threads keep t u world n) ∙ h
 
+-- a thread that has ended moves no more
 pub moves_ended : (threads : Threads) (keep : Event → Bool) (n t : ℕ) (world : World) → has_ended (wanted threads t world) ≡ true → moves threads keep n t world ≡ world
 unfolding moves
 moves_ended threads keep zero t world h = refl
 moves_ended threads keep (suc n) t world h = ap (moves threads keep n t) (move_ended threads keep t world h) ∙ moves_ended threads keep n t world h
 
+-- moves of one thread leave the others' steps
 pub moves_there : (threads : Threads) (keep : Event → Bool) (n t u : ℕ) (world : World) → (u ≡ t → ⊥) →
     steps_of (moves threads keep n t world).threads u ≡ steps_of world.threads u
 unfolding moves
 moves_there threads keep zero t u world ne = refl
 moves_there threads keep (suc n) t u world ne = moves_there threads keep n t u (move threads keep t world) ne ∙ move_there threads keep t u world ne
 
+-- no move changes the number of threads
 pub moves_count : (threads : Threads) (keep : Event → Bool) (n t : ℕ) (world : World) → length (moves threads keep n t world).threads ≡ length world.threads
 unfolding moves
 moves_count threads keep zero t world = refl
 moves_count threads keep (suc n) t world = moves_count threads keep n t (move threads keep t world) ∙ move_count threads keep t world
 
+-- nor does the end of a play
 pub finish_count : (threads : Threads) (keep : Event → Bool) (bound n : ℕ) (world : World) → length (finish threads keep bound n world).threads ≡ length world.threads
 unfolding finish
 finish_count threads keep bound zero world = refl

@@ -9,9 +9,11 @@ use Rattle.replay_model.specs.Orders.{place}
 use Rattle.replay_model.proofs.Tags.{same_event-true}
 use Rattle.replay_laws.proofs.Places.{IsOnce, same_place}
 
+-- one more event in front
 pub Contains-next : (x : Event) (xs : List Event) (e : Event) → Contains xs e → Contains (x ∷ xs) e
 Contains-next x xs e (k, l, h) = (suc k, omega arith, h)
 
+-- what passes was there
 pub Contains-filter : (p : Event → Bool) (xs : List Event) (e : Event) → Contains (filter p xs) e → Contains xs e
 Contains-filter p [] e c = c
 Contains-filter p (x ∷ xs) e c = go (Contains-filter p xs e) (cases_Bool (p x))
@@ -28,9 +30,11 @@ Contains-filter p (x ∷ xs) e c = go (Contains-filter p xs e) (cases_Bool (p x)
         at (zero, l, h) = (0, omega arith, h)
         at (suc k, l, h) = Contains-next x xs e (ih (k, omega arith, h))
 
+-- and passes the test
 pub filter-test : (p : Event → Bool) (xs : List Event) (e : Event) → Contains (filter p xs) e → p e ≡ true
 filter-test p xs e c = All-contains (λ x. p x ≡ true) (filter p xs) e (filter_passes p xs) c
 
+-- an event that passes keeps a place
 pub place_filter-in : (p : Event → Bool) (xs : List Event) (e : Event) → p e ≡ true → place xs e < length xs → place (filter p xs) e < length (filter p xs)
 place_filter-in p [] e t l = l
 place_filter-in p (x ∷ xs) e t l = go (place_filter-in p xs e t) (cases_Bool (same_event x e)) (cases_Bool (p x))
@@ -49,6 +53,7 @@ place_filter-in p (x ∷ xs) e t l = go (place_filter-in p xs e t) (cases_Bool (
         let m : suc (place xs e) < suc (length xs) = subst (λ (b : Bool). cond b 0 (suc (place xs e)) < suc (length xs)) s l in
         let i = ih (omega (arith, m)) in rw q i
 
+-- earlier stays earlier
 pub place_filter-lt : (p : Event → Bool) (xs : List Event) (a b : Event) → p a ≡ true → p b ≡ true → place xs a < place xs b → place (filter p xs) a < place (filter p xs) b
 place_filter-lt p [] a b ta tb l = l
 place_filter-lt p (x ∷ xs) a b ta tb l = go (place_filter-lt p xs a b ta tb) (cases_Bool (same_event x a)) (cases_Bool (same_event x b)) (cases_Bool (p x))
@@ -72,6 +77,7 @@ place_filter-lt p (x ∷ xs) a b ta tb l = go (place_filter-lt p xs a b ta tb) (
         last (inl q) = let k = i in rw q (rw (s, r) (omega (arith, k)))
         last (inr q) = rw q i
 
+-- no later stays no later
 pub place_filter-le : (p : Event → Bool) (xs : List Event) (a b : Event) → p a ≡ true → p b ≡ true → place xs a < length xs → place xs a ≤ place xs b → place (filter p xs) a ≤ place (filter p xs) b
 place_filter-le p xs a b ta tb in' l = go (cases_lt (place xs a) (place xs b))
   where
@@ -81,9 +87,11 @@ place_filter-le p xs a b ta tb in' l = go (cases_lt (place xs a) (place xs b))
         let q : place xs a ≡ place xs b = omega arith in
         let r : place (filter p xs) a ≡ place (filter p xs) b = ap (place (filter p xs)) (same_place xs a b q in') in omega (arith, r)
 
+-- the rest of a list with each event once
 pub once_next : (x : Event) (xs : List Event) → IsOnce (x ∷ xs) → IsOnce xs
 once_next x xs once i j d ij jl = once (suc i) (suc j) d (omega arith) (omega arith)
 
+-- what stood once stands once
 pub once_filter : (p : Event → Bool) (xs : List Event) → IsOnce xs → IsOnce (filter p xs)
 once_filter p [] once = once
 once_filter p (x ∷ xs) once = go (once_filter p xs (once_next x xs once)) (cases_Bool (p x))

@@ -18,6 +18,7 @@ abbrev pub IsLater : World → Event → Type 0
 IsLater world e = length (steps_of world.threads e.thread) < e.step
 
 module _ (threads : Threads) (initial : List ℕ) (count : ℕ) (within : StaysWithin threads (length initial)) (only : HasOnly threads count) where
+  -- who wants a step is one of the threads
   pub is_thread : (world : World) → IsGoing threads initial count world → (t : ℕ) → has_ended (threads t (steps_of world.threads t)) ≡ false → t < length world.threads
   is_thread world g t e = go (cases_lt t count)
     where
@@ -25,12 +26,14 @@ module _ (threads : Threads) (initial : List ℕ) (count : ℕ) (within : StaysW
       go (inl l) = let c = g.counted in omega arith
       go (inr l) = let no : true ≡ false = sym (only t (steps_of world.threads t) l) ∙ e in cc no
 
+  -- the thread that moves has one step more
   pub moved_here : (world : World) → IsGoing threads initial count world → (t : ℕ) → has_ended (threads t (steps_of world.threads t)) ≡ false →
       steps_of (move threads keep_all t world).threads t ≡ steps_of world.threads t ++ step_in world.memory (threads t (steps_of world.threads t)) ∷ []
   moved_here world g t e =
       ap (λ (x : World). steps_of x.threads t) (move_shape threads keep_all t world (threads t (steps_of world.threads t)) refl e) ∙
       set_here world.threads t (steps_of world.threads t ++ step_in world.memory (threads t (steps_of world.threads t)) ∷ []) (is_thread world g t e)
 
+  -- its length grows by one
   pub moved_length : (world : World) → IsGoing threads initial count world → (t : ℕ) → has_ended (threads t (steps_of world.threads t)) ≡ false →
       length (steps_of (move threads keep_all t world).threads t) ≡ length (steps_of world.threads t) + 1
   moved_length world g t e = ap length (moved_here world g t e) ∙ length_push (steps_of world.threads t) (step_in world.memory (threads t (steps_of world.threads t)))
@@ -59,6 +62,7 @@ module _ (threads : Threads) (initial : List ℕ) (count : ℕ) (within : StaysW
           let l = ap length m in
           (omega (arith, l), λ k kl. ap (λ (x : List Step). slice_index_or x k no_step) m)
 
+  -- a history keeps the earlier steps
   pub play_keeps : (history : List ℕ) (world : World) → IsGoing threads initial count world → IsLegal threads history world → (u : ℕ) →
       (length (steps_of world.threads u) ≤ length (steps_of (play threads history world).threads u)) ×
       ((k : ℕ) → k < length (steps_of world.threads u) → run_step (play threads history world).threads u k ≡ run_step world.threads u k)
@@ -82,6 +86,7 @@ module _ (threads : Threads) (initial : List ℕ) (count : ℕ) (within : StaysW
             get_or_push (steps_of world.threads t) (step_in world.memory (threads t (steps_of world.threads t))) no_step (length (steps_of world.threads t)) refl,
       )
 
+  -- what is to come is the next step, or comes after it
   pub later_split : (world : World) → IsGoing threads initial count world → (t : ℕ) → has_ended (threads t (steps_of world.threads t)) ≡ false → (e : Event) → IsLater world e →
       (next_event t world ≡ e) ⊎ IsLater (move threads keep_all t world) e
   later_split world g t h e later = go (cases_eq e.thread t)
@@ -99,6 +104,7 @@ module _ (threads : Threads) (initial : List ℕ) (count : ℕ) (within : StaysW
               let r : length (steps_of (move threads keep_all t world).threads t) < e.step = omega (arith, m) in
               inr (subst (λ (x : ℕ). length (steps_of (move threads keep_all t world).threads x) < e.step) (sym s) r)
 
+  -- what comes after a step was to come before it, and is another
   pub later_back : (world : World) → IsGoing threads initial count world → (t : ℕ) → has_ended (threads t (steps_of world.threads t)) ≡ false → (e : Event) → IsLater (move threads keep_all t world) e →
       IsLater world e × (next_event t world ≢ e)
   later_back world g t h e later =
@@ -126,6 +132,7 @@ module _ (threads : Threads) (initial : List ℕ) (count : ℕ) (within : StaysW
           omega (arith, p2)
       go (inr l) ih = let p = place_next (next_event t world) e (events_of threads history (move threads keep_all t world)) (later_back world g t legal.0 e l).1 in let i = ih l in omega (arith, p, i)
 
+  -- the events of a history were to come, and are among its steps at the end
   pub events-later : (history : List ℕ) (world : World) → IsGoing threads initial count world → IsLegal threads history world → (e : Event) → Contains (events_of threads history world) e →
       IsLater world e × (e.step ≤ length (steps_of (play threads history world).threads e.thread))
   unfolding play events_of IsLegal
@@ -139,6 +146,7 @@ module _ (threads : Threads) (initial : List ℕ) (count : ℕ) (within : StaysW
       let (a, b) = events-later history (move threads keep_all t world) (going_move threads initial count within only keep_all t world g) legal.1 e (k, omega arith, h) in
       ((later_back world g t legal.0 e a).0, b)
 
+  -- events of one thread stand by rising number
   pub events-rising : (history : List ℕ) (world : World) → IsGoing threads initial count world → IsLegal threads history world → (a b : Event) → IsLater world a → IsLater world b →
       b.step ≤ length (steps_of (play threads history world).threads b.thread) → a.thread ≡ b.thread → a.step < b.step →
       place (events_of threads history world) a < place (events_of threads history world) b
@@ -170,6 +178,7 @@ module _ (threads : Threads) (initial : List ℕ) (count : ℕ) (within : StaysW
           let q = place_next (next_event u world) b later (later_back world g u legal.0 b r).1 in
           let i = ih l r in omega (arith, p, q, i)
 
+  -- each event stands once
   pub events-once : (history : List ℕ) (world : World) → IsGoing threads initial count world → IsLegal threads history world → IsOnce (events_of threads history world)
   unfolding events_of IsLegal
   events-once [] world g legal i j d ij jl = absurd (omega arith)

@@ -34,10 +34,12 @@ same_cells one two tags values =
 
 module _ (threads : Threads) (instr : Instructions) (digest : List ℕ) (limits : Limits) (initial : List ℕ) (count : ℕ) (history : List ℕ)
     (within : StaysWithin threads (length initial)) (only : HasOnly threads count) (whole : IsWholeHistory threads initial count history) where
+  -- the runs of a whole history fit its log
   pub history_fits : Fits threads instr initial (history_log threads instr digest limits initial count history) (played threads initial count history).threads
   history_fits = sound_fits threads instr initial (history_log threads instr digest limits initial count history) (played threads initial count history)
       (going threads initial count history within only whole.legal).sound (record { logs = refl; lasts = refl }) whole.whole
 
+  -- each word ends with the value that its last tag names
   pub history_shows : ShowsRuns initial (history_log threads instr digest limits initial count history) (played threads initial count history).threads (played threads initial count history)
   history_shows =
       let s = (going threads initial count history within only whole.legal).sound in
@@ -47,6 +49,7 @@ module _ (threads : Threads) (instr : Instructions) (digest : List ℕ) (limits 
         values = grounded_finals initial (played threads initial count history).threads (played threads initial count history).memory (last_tags (played threads initial count history).memory) refl s.sized s.memory;
       }
 
+  -- the history's order respects its log
   pub history_respects : Respects (history_log threads instr digest limits initial count history) (history_order threads initial count history (history_log threads instr digest limits initial count history))
   history_respects = linear_respects threads instr initial (history_log threads instr digest limits initial count history) (played threads initial count history).threads
       (events_of threads history (opening initial count)) history_fits (history_linear threads initial count history within only whole.legal)

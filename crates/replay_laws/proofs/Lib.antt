@@ -20,3 +20,4 @@ pub mod WellFormedLog
 pub mod Rounds
 pub mod Scripts
 pub mod WorkedExamples
+pub mod NoFit

@@ -35,6 +35,7 @@ pub record IsLinear (size : ℕ) (runs : List (List Step)) (all : List Event) (l
       (word < size) × IsSourceAt runs all (place all e) word tag
   pub final : (word : ℕ) → word < size → IsSourceAt runs all (length all) word (slice_index_or lasts word None)
 
+-- a history has as many events as steps
 pub events_of-length : (threads : Threads) (history : List ℕ) (world : World) → length (events_of threads history world) ≡ length history
 unfolding events_of
 events_of-length threads [] world = refl
@@ -45,6 +46,7 @@ module _ (threads : Threads) (initial : List ℕ) (count : ℕ) (history : List 
   start : IsGoing threads initial count (opening initial count)
   start = going_opening threads initial count within only
 
+  -- a play from the opening state is sound
   pub going : IsGoing threads initial count (played threads initial count history)
   going = going_play threads initial count within only history (opening initial count) start
 

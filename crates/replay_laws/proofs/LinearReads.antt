@@ -20,18 +20,22 @@ use Rattle.replay_laws.proofs.Linear.{IsSourceAt, IsLinear}
 
 module _ (threads : Threads) (instr : Instructions) (initial : List ℕ) (log : Log) (runs : List (List Step)) (all : List Event)
     (fits : Fits threads instr initial log runs) (linear : IsLinear (length initial) runs all log.lasts) where
+  -- what the log tells of its runs
   pub told : Told initial log runs
   told = told_by_fit threads instr initial log runs fits
 
+  -- each entry stands for reads of its run
   pub entry_stands : (t : ℕ) (a : Entry) → HasEntry log t a → Stands (steps_of runs t) a
   entry_stands t a c = thread_log-stands (steps_of runs t) a (entry-logged threads instr log runs fits.logs t a c).1
 
+  -- the first read of an entry saw its source
   pub first_read : (t : ℕ) (a : Entry) → HasEntry log t a → (a.word < length initial) × IsSourceAt runs all (place all (first_event t a)) a.word a.source
   first_read t a c =
       let s = entry_stands t a c in
       let low = s.low in let between = s.between in let high = s.high in
       linear.read (first_event t a) a.word a.source low (omega arith) s.first
 
+  -- so did the last
   pub last_read : (t : ℕ) (a : Entry) → HasEntry log t a → (a.word < length initial) × IsSourceAt runs all (place all (last_event t a)) a.word a.source
   last_read t a c =
       let s = entry_stands t a c in

@@ -14,6 +14,7 @@ use Rattle.replay_model.specs.Fitting.{HasWritten}
 use Rattle.replay_model.proofs.Moves.{in_range}
 use Rattle.replay_laws.proofs.Skip.{Told, IsLatest, Inv, found_right}
 
+-- a place at which nothing is written to the word changes nothing
 pub still_latest : (initial : List ℕ) (log : Log) (runs : List (List Step)) (order : List Event) (i word : ℕ) (cell : Cell) →
     ((e : Event) (v : ℕ) → IsKept log e → HasWritten runs e word v → place order e ≡ i → ⊥) →
     IsLatest initial log runs order i word cell → IsLatest initial log runs order (i + 1) word cell
@@ -39,6 +40,7 @@ module _ (threads : Threads) (initial : List ℕ) (log : Log) (runs : List (List
     (told : Told initial log runs) (respects : Respects log order)
     (run : (t : ℕ) → t < length runs → IsRun threads t (steps_of runs t))
     (within : StaysWithin threads (length initial)) where
+  -- a thread wants what its run wants next
   pub wants_next : (i : ℕ) (world : World) → Inv initial log runs order i world → (t : ℕ) →
       length (steps_of world.threads t) < length (steps_of runs t) →
       threads t (steps_of world.threads t) ≡ (run_step runs t (length (steps_of world.threads t))).want
@@ -56,6 +58,7 @@ module _ (threads : Threads) (initial : List ℕ) (log : Log) (runs : List (List
           absurd (omega arith)
       far (inr x) = x
 
+  -- and finds what its run found
   pub step_found : (i : ℕ) (world : World) → Inv initial log runs order i world → (t k : ℕ) → k ≡ length (steps_of world.threads t) →
       (l : k < length (steps_of runs t)) →
       threads t (steps_of world.threads t) ≡ (run_step runs t k).want →

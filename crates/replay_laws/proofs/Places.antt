@@ -32,18 +32,22 @@ at_place (x ∷ order) e d h = go (at_place order e d) (cases_Bool (same_event x
     go ih (inl t) = rw t (same_event-true x e t)
     go ih (inr t) = rw t (ih (let l : cond (same_event x e) 0 (suc (place order e)) < suc (length order) = h in let m : suc (place order e) < suc (length order) = rw t at l in omega arith))
 
+-- what has a place is there
 pub Contains-place : (order : List Event) (e : Event) → place order e < length order → Contains order e
 Contains-place order e l = (place order e, l, at_place order e e l)
 
+-- one place, one event
 pub same_place : (order : List Event) (a b : Event) → place order a ≡ place order b → place order a < length order → a ≡ b
 same_place order a b p l =
     let x = at_place order a a l in
     let y = at_place order b a (let q : place order b < length order = omega arith in q) in
     sym x ∙ ap (λ n. get_or order n a) p ∙ y
 
+-- the first event stands at 0
 pub place_head : (a : Event) (order : List Event) → place (a ∷ order) a ≡ 0
 place_head a order = cond-true (same_event a a) 0 (suc (place order a)) (same_event-same a)
 
+-- another stands one later than in the rest
 pub place_next : (a e : Event) (order : List Event) → a ≢ e → place (a ∷ order) e ≡ suc (place order e)
 place_next a e order n = cond-false (same_event a e) 0 (suc (place order e)) (same_event-false a e n)
 
@@ -73,6 +77,7 @@ entry_thread log t entry (k, l, h) = go (cases_lt t (length log.threads))
     go (inl l) = l
     go (inr p) = let e = ap (λ (x : ThreadLog). length x.entries) (get_or_past log.threads t no_thread p) in absurd (omega (arith, l, e))
 
+-- the test on kept writes decides
 pub keeps-kept : (log : Log) (event : Event) → keeps log event ≡ true → IsKept log event
 keeps-kept log event h = go (or_cases (list_any (names_source (Some event)) log.threads) (list_any (same_tag (Some event)) log.lasts) h)
   where
@@ -86,6 +91,7 @@ keeps-kept log event h = go (or_cases (list_any (names_source (Some event)) log.
         let (tag, c, z) = any-element (same_tag (Some event)) log.lasts x in
         inr (subst (Contains log.lasts) (sym (same_tag-true (Some event) tag z)) c)
 
+-- and the other way round
 pub kept-keeps : (log : Log) (event : Event) → IsKept log event → keeps log event ≡ true
 kept-keeps log event (inl (t, entry, c, q)) =
     let l = entry_thread log t entry c in
@@ -96,6 +102,7 @@ kept-keeps log event (inr c) =
     or_right (list_any (names_source (Some event)) log.threads) (list_any (same_tag (Some event)) log.lasts)
     (element-any (same_tag (Some event)) log.lasts (Some event) c (same_event-same event))
 
+-- so does the test on firsts and lasts
 pub is_bound-bound : (log : Log) (event : Event) → is_bound log event ≡ true → IsBound log event
 is_bound-bound log event h =
     let (entry, c, z) = any-element (λ (a : Entry). eqb event.step a.first || eqb event.step a.last) (thread_of log event.thread).entries h in
@@ -105,6 +112,7 @@ is_bound-bound log event h =
     which entry (inl s) = let q : event.step ≡ entry.first = eqb-true _ _ s in inl (λ j. record { thread = event.thread; step = q j })
     which entry (inr s) = let q : event.step ≡ entry.last = eqb-true _ _ s in inr (λ j. record { thread = event.thread; step = q j })
 
+-- and the other way round
 pub bound-is_bound : (log : Log) (event : Event) → IsBound log event → is_bound log event ≡ true
 bound-is_bound log event (t, entry, c, inl q) =
     let P : Event → Type 0 = λ e. is_bound log e ≡ true in
@@ -123,6 +131,7 @@ is_event-event log e h = go (or_cases (keeps log e) (is_bound log e) h)
     go (inl k) = inl (keeps-kept log e k)
     go (inr b) = inr (is_bound-bound log e b)
 
+-- and the other way round
 pub event-is_event : (log : Log) (e : Event) → IsEvent log e → is_event log e ≡ true
 event-is_event log e (inl k) = or_left (keeps log e) (is_bound log e) (kept-keeps log e k)
 event-is_event log e (inr b) = or_right (keeps log e) (is_bound log e) (bound-is_bound log e b)

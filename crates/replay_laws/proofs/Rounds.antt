@@ -20,6 +20,7 @@ history_of-ended threads t turns world e =
     ap (λ (x : List ℕ). x ++ history_of threads turns (move threads keep_all t world)) (cond-true (has_ended (wanted threads t world)) [] (t ∷ []) e) ∙
     ap (history_of threads turns) (move_ended threads keep_all t world e)
 
+-- the same, where t still wants a step
 pub history_of-moved : (threads : Threads) (t : ℕ) (turns : List ℕ) (world : World) → has_ended (wanted threads t world) ≡ false →
     history_of threads (t ∷ turns) world ≡ t ∷ history_of threads turns (move threads keep_all t world)
 unfolding history_of
@@ -67,6 +68,7 @@ move_no_less threads t u world l = go (cases_eq u t) (cases_Bool (has_ended (wan
         let m = move_here threads keep_all t world (wanted threads t world) tl refl d in
         subst P (sym e) (omega (arith, m))
 
+-- a play takes no step back
 pub play_no_less : (threads : Threads) (turns : List ℕ) (u : ℕ) (world : World) → u < length world.threads → length (steps_of world.threads u) ≤ length (steps_of (play threads turns world).threads u)
 unfolding play
 play_no_less threads [] u world l = omega arith
@@ -148,6 +150,7 @@ followed threads bound initial count order stops =
           rounds_end threads bound count (play threads order (opening initial count)) stops (mid ∙ n) t (omega (arith, l, c, mid, n)));
     }
 
+-- so are rounds alone
 pub rounded : (threads : Threads) (bound : ℕ) (initial : List ℕ) (count : ℕ) → EndsWithin threads bound →
     IsWholeHistory threads initial count (history_of threads (round_turns count bound) (opening initial count))
 rounded threads bound initial count stops = followed threads bound initial count [] stops

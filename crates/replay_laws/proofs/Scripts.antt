@@ -39,32 +39,40 @@ guard_cases size limits steps want P halted bad spent full live = one (has_ended
     one true q = halted
     one false q = two (nat_le size (word_of want)) refl q
 
+-- the guard lets no word pass that is not there
 pub guard_within : (size : ℕ) (limits : Limits) (steps : List Step) (want : Want) → has_ended (guarded size limits steps want) ≡ false → word_of (guarded size limits steps want) < size
 guard_within size limits steps want = guard_cases size limits steps want (λ w. has_ended w ≡ false → word_of w < size) (λ q. cc q) (λ l q. cc q) (λ q. cc q) (λ q. cc q) (λ e w l f q. w)
 
+-- it ends a thread at the limit of steps
 pub guard_ends : (size : ℕ) (limits : Limits) (steps : List Step) (want : Want) → limits.steps ≤ length steps → has_ended (guarded size limits steps want) ≡ true
 guard_ends size limits steps want l = guard_cases size limits steps want (λ w. has_ended w ≡ true) refl (λ b. refl) refl refl (λ e w s f. absurd (omega arith))
 
+-- it lets nothing be read by a full log
 pub guard_room : (size : ℕ) (limits : Limits) (steps : List Step) (want : Want) → reads (guarded size limits steps want) ≡ true → is_full limits.entries steps ≡ false
 guard_room size limits steps want = guard_cases size limits steps want (λ w. reads w ≡ true → is_full limits.entries steps ≡ false) (λ q. cc q) (λ l q. cc q) (λ q. cc q) (λ q. cc q)
     (λ e w l f q. sym (ap (λ (b : Bool). b && is_full limits.entries steps) q) ∙ f)
 
+-- it calls no address bad that a word has
 pub guard_addresses : (size : ℕ) (limits : Limits) (steps : List Step) (want : Want) (address : ℕ) → guarded size limits steps want ≡ Ended (BadAddress address) → size ≤ address
 guard_addresses size limits steps want address = guard_cases size limits steps want (λ w. w ≡ Ended (BadAddress address) → size ≤ address)
     (λ q. cc q) (λ l q. let e : word_of want ≡ address = cc q in omega arith) (λ q. cc q) (λ q. cc q)
     (λ e w l f q. let no : false ≡ true = sym e ∙ ap has_ended q in cc no)
 
 module _ (scripts : List Script) (size : ℕ) (limits : Limits) where
+  -- no script asks for a word that is not there
   pub script_within : StaysWithin (script_threads scripts size limits) size
   script_within t steps e = guard_within size limits steps (slice_index_or {A = Script} scripts t silent (cells_found steps)) e
 
+  -- threads are no more than their scripts
   pub script_only : HasOnly (script_threads scripts size limits) (length {A = Script} scripts)
   script_only t steps l =
       ap (λ (s : Script). has_ended (guarded size limits steps (s (cells_found steps)))) (get_or_past {X = Script} scripts t silent l)
 
+  -- each ends within the limit of steps
   pub script_ends : EndsWithin (script_threads scripts size limits) limits.steps
   script_ends t steps l = guard_ends size limits steps (slice_index_or {A = Script} scripts t silent (cells_found steps)) l
 
+  -- and keeps to the other limits
   pub script_keeps : limits.steps ≤ limits.instr → KeepsLimits (script_threads scripts size limits) one_each size limits
   script_keeps le = record {
     counts = λ t steps run. short t steps run (cases_Bool (nat_le (length steps) limits.steps));
@@ -81,5 +89,6 @@ module _ (scripts : List Script) (size : ℕ) (limits : Limits) where
           let lives : has_ended (script_threads scripts size limits t (take limits.steps steps)) ≡ false = ap has_ended (run.wants limits.steps x) ∙ run.lives limits.steps x in
           let z : true ≡ false = sym ended ∙ lives in cc z
 
+-- all premises of the laws
 pub scripts_meet : ScriptsMeetThePremises
 scripts_meet scripts size limits = (script_within scripts size limits, script_only scripts size limits, script_ends scripts size limits, script_keeps scripts size limits)

@@ -21,6 +21,7 @@ use Rattle.replay_laws.proofs.Advance.{event_inside}
 use Rattle.replay_laws.proofs.Turns.{turns_all, to_end}
 use Rattle.replay_laws.proofs.Told.{told_by_fit, run_short, grounded_finals}
 
+-- the latest write of a word is a write of the runs
 pub grounded_latest : (initial : List ℕ) (log : Log) (runs : List (List Step)) (order : List Event) (i word : ℕ) (cell : Cell) →
     IsLatest initial log runs order i word cell → IsGrounded initial runs word cell
 grounded_latest initial log runs order i word cell (inl fresh) = inl (fresh.tag, fresh.value)
@@ -95,6 +96,7 @@ module _ (threads : Threads) (initial : List ℕ) (log : Log) (runs : List (List
     (told : Told initial log runs) (respects : Respects log order)
     (run : (t : ℕ) → t < length runs → IsRun threads t (steps_of runs t))
     (within : StaysWithin threads (length initial)) where
+  -- after the order each thread goes to the end of its run
   pub finish_all : (bound : ℕ) → ((t : ℕ) → length (steps_of runs t) ≤ bound) → (count : ℕ) → count ≤ length runs →
       (world : World) → Inv initial log runs order (length order) world →
       Inv initial log runs order (length order) (finish threads (keeps log) bound count world) ×

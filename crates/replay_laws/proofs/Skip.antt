@@ -32,6 +32,7 @@ pub record IsFresh (log : Log) (runs : List (List Step)) (order : List Event) (i
   pub value : cell.value ≡ first
   pub none : (e : Event) (v : ℕ) → IsKept log e → HasWritten runs e word v → i ≤ place order e
 
+-- a kept write, done, and no later one is done
 pub record IsFrom (log : Log) (runs : List (List Step)) (order : List Event) (i word : ℕ) (cell : Cell) : Type 0 where
   pub event : Event
   pub tag : cell.tag ≡ Some event
@@ -40,6 +41,7 @@ pub record IsFrom (log : Log) (runs : List (List Step)) (order : List Event) (i 
   pub done : place order event < i
   pub latest : (e : Event) (v : ℕ) → IsKept log e → HasWritten runs e word v → place order e < i → place order e ≤ place order event
 
+-- one of the two
 abbrev pub IsLatest : List ℕ → Log → List (List Step) → List Event → ℕ → ℕ → Cell → Type 0
 IsLatest initial log runs order i word cell = IsFresh log runs order i word (slice_index_or initial word 0) cell ⊎ IsFrom log runs order i word cell
 
@@ -53,15 +55,18 @@ pub record Inv (initial : List ℕ) (log : Log) (runs : List (List Step)) (order
   pub todo : (e : Event) → IsEvent log e → i ≤ place order e → length (steps_of world.threads e.thread) < e.step
   pub memory : (word : ℕ) → word < length initial → IsLatest initial log runs order i word (slice_index_or world.memory word no_cell)
 
+-- one step writes one value
 pub same_value : (runs : List (List Step)) (e : Event) (word v w : ℕ) → HasWritten runs e word v → HasWritten runs e word w → v ≡ w
 same_value runs e word v w a b = let p = a.wrote in let q = b.wrote in cc
 
+-- to one word
 pub same_word : (runs : List (List Step)) (e : Event) (x y v w : ℕ) → HasWritten runs e x v → HasWritten runs e y w → x ≡ y
 same_word runs e x y v w a b = let p = a.to in let q = b.to in cc
 
 -- every event of the log stands in the order, first events before last ones
 module _ (initial : List ℕ) (log : Log) (runs : List (List Step)) (order : List Event)
     (told : Told initial log runs) (respects : Respects log order) where
+  -- an entry's first stands no later than its last
   pub first_last : (t : ℕ) (b : Entry) → HasEntry log t b → place order (first_event t b) ≤ place order (last_event t b)
   first_last t b h = go (cases_order b.first b.last)
     where

@@ -18,6 +18,7 @@ pub record IsSoundStep (threads : Threads) (initial : List ℕ) (runs : List (Li
   pub found : is_some (slice_index_or steps k no_step).found ≡ reads (slice_index_or steps k no_step).want
   pub grounded : (cell : Cell) → (slice_index_or steps k no_step).found ≡ Some cell → IsGrounded initial runs (word_of (slice_index_or steps k no_step).want) cell
 
+-- each step was wanted, and each cell was there from the start or was written by a step
 pub record IsSound (threads : Threads) (initial : List ℕ) (world : World) : Type 0 where
   pub sized : length world.memory ≡ length initial
   pub steps : (t k : ℕ) → k < length (steps_of world.threads t) → IsSoundStep threads initial world.threads t (steps_of world.threads t) k
@@ -41,6 +42,7 @@ written_more runs t step l e word v hw =
     there : (u : ℕ) → (u ≡ t → ⊥) → e.thread ≡ u → (e.step ≤ length (steps_of runs u)) × (slice_index_or (steps_of runs u) (e.step - 1) no_step ≡ step_at runs e)
     there u n et = (subst (λ (u : ℕ). e.step ≤ length (steps_of runs u)) et hw.high, ap (λ u. slice_index_or (steps_of runs u) (e.step - 1) no_step) (sym et))
 
+-- and what is grounded
 pub grounded_more : (initial : List ℕ) (old new : List (List Step)) → ((e : Event) (word v : ℕ) → HasWritten old e word v → HasWritten new e word v) →
     (word : ℕ) (cell : Cell) → IsGrounded initial old word cell → IsGrounded initial new word cell
 grounded_more initial old new more word cell (inl p) = inl p
@@ -154,33 +156,39 @@ pub record IsGoing (threads : Threads) (initial : List ℕ) (count : ℕ) (world
   pub counted : length world.threads ≡ count
 
 module _ (threads : Threads) (initial : List ℕ) (count : ℕ) (within : StaysWithin threads (length initial)) (only : HasOnly threads count) where
+  -- a step keeps it
   pub going_move : (keep : Event → Bool) (t : ℕ) (world : World) → IsGoing threads initial count world → IsGoing threads initial count (move threads keep t world)
   going_move keep t world g = record {
     sound = sound_move threads initial keep t world within (subst (HasOnly threads) (sym g.counted) only) g.sound;
     counted = move_count threads keep t world ∙ g.counted;
   }
 
+  -- so do steps of one thread
   pub going_moves : (keep : Event → Bool) (n t : ℕ) (world : World) → IsGoing threads initial count world → IsGoing threads initial count (moves threads keep n t world)
   unfolding moves
   going_moves keep zero t world g = g
   going_moves keep (suc n) t world g = going_moves keep n t (move threads keep t world) (going_move keep t world g)
 
+  -- so do turns
   pub going_turns : (keep : Event → Bool) (order : List Event) (world : World) → IsGoing threads initial count world → IsGoing threads initial count (turns threads keep order world)
   unfolding turns turn
   going_turns keep [] world g = g
   going_turns keep (e ∷ order) world g = going_turns keep order (moves threads keep (e.step - length (steps_of world.threads e.thread)) e.thread world)
       (going_moves keep (e.step - length (steps_of world.threads e.thread)) e.thread world g)
 
+  -- so does the end of a play
   pub going_finish : (keep : Event → Bool) (bound n : ℕ) (world : World) → IsGoing threads initial count world → IsGoing threads initial count (finish threads keep bound n world)
   unfolding finish
   going_finish keep bound zero world g = g
   going_finish keep bound (suc t) world g = going_moves keep bound t (finish threads keep bound t world) (going_finish keep bound t world g)
 
+  -- so does a history
   pub going_play : (history : List ℕ) (world : World) → IsGoing threads initial count world → IsGoing threads initial count (play threads history world)
   unfolding play
   going_play [] world g = g
   going_play (t ∷ history) world g = going_play history (move threads keep_all t world) (going_move keep_all t world g)
 
+  -- the opening state has it
   pub going_opening : IsGoing threads initial count (opening initial count)
   going_opening = record {
     sound = record {

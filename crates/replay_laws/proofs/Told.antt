@@ -23,6 +23,7 @@ grounded_writes initial runs word cell event (inr (e, i, hw)) q =
     let same : e ≡ event = let y : Some e ≡ Some event = sym i ∙ q in cc y in
     subst (λ (x : Event). HasWritten runs x word cell.value) same hw
 
+-- a log tells this of runs that fit it
 pub told_by_fit : (threads : Threads) (instr : Instructions) (initial : List ℕ) (log : Log) (runs : List (List Step)) → Fits threads instr initial log runs → Told initial log runs
 told_by_fit threads instr initial log runs fits = record {
   grounded = fits.grounded;
@@ -72,10 +73,12 @@ grounded_value initial runs word cell (inr (e, i, hw)) =
     let a : unwrap_or (wrote (step_at runs e).want (step_at runs e).found) 0 ≡ cell.value = ap (λ (o : Option ℕ). unwrap_or o 0) hw.wrote in
     sym a ∙ ap (final_value initial runs word) (sym i)
 
+-- one value for each last tag
 pub finals_from-length : (initial : List ℕ) (runs : List (List Step)) (m : ℕ) (lasts : List Tag) → length (finals_from initial runs m lasts) ≡ length lasts
 finals_from-length initial runs m [] = refl
 finals_from-length initial runs m (tag ∷ lasts) = ap suc (finals_from-length initial runs (m + 1) lasts)
 
+-- and at each word its own
 pub finals_from-at : (initial : List ℕ) (runs : List (List Step)) (m : ℕ) (lasts : List Tag) (word d : ℕ) (last : Tag) → word < length lasts →
     slice_index_or (finals_from initial runs m lasts) word d ≡ final_value initial runs (m + word) (slice_index_or lasts word last)
 finals_from-at initial runs m [] word d last l = absurd (omega (arith, l))

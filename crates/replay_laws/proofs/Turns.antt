@@ -22,9 +22,11 @@ module _ (threads : Threads) (initial : List ℕ) (log : Log) (runs : List (List
     (told : Told initial log runs) (respects : Respects log order)
     (run : (t : ℕ) → t < length runs → IsRun threads t (steps_of runs t))
     (within : StaysWithin threads (length initial)) where
+  -- each event of the log has a place
   pub placed : (e : Event) → IsEvent log e → place order e < length order
   placed e ev = place-contains order e (respects.all e ev)
 
+  -- of one thread's events the one with the lesser number stands no later
   pub upto : (a b : Event) → IsEvent log a → IsEvent log b → a.thread ≡ b.thread → a.step ≤ b.step → place order a ≤ place order b
   upto a b va vb t s = go (cases_lt a.step b.step)
     where
@@ -35,6 +37,7 @@ module _ (threads : Threads) (initial : List ℕ) (log : Log) (runs : List (List
           let same : a ≡ b = λ j. record { thread = t j; step = e j } in
           let q : place order a ≡ place order b = ap (place order) same in omega arith
 
+  -- and the one that stands earlier has the lesser number
   pub below : (a b : Event) → IsEvent log a → IsEvent log b → a.thread ≡ b.thread → place order a < place order b → a.step < b.step
   below a b va vb t s = go (cases_lt a.step b.step)
     where
@@ -147,6 +150,7 @@ module _ (threads : Threads) (initial : List ℕ) (log : Log) (runs : List (List
       later a va lo at k (inl s) = absurd (let r = respects.rising a e (respects.all a va) (respects.all e ev) at s in omega arith)
       later a va lo at k (inr s) = omega arith
 
+  -- all turns from place i on
   pub turns_all : (rest : List Event) (i : ℕ) (world : World) → drop i order ≡ rest → i + length rest ≡ length order →
       Inv initial log runs order i world → Inv initial log runs order (length order) (turns threads (keeps log) rest world)
   unfolding turns turn

@@ -38,6 +38,7 @@ sound_fits threads instr initial log world sound has whole = record {
 
 module _ (threads : Threads) (instr : Instructions) (initial : List ℕ) (log : Log) (order : List Event)
     (within : StaysWithin threads (length initial)) (only : HasOnly threads (length log.threads)) (stops : EndsWithin threads log.limits.steps) where
+  -- the end of a skip play is sound
   pub skip_going : IsGoing threads initial (length log.threads) (skip_play threads initial log order)
   skip_going =
       going_finish threads initial (length log.threads) within only (keeps log) log.limits.steps (length (opening initial (length log.threads)).threads) (turns threads (keeps log) order (opening initial (length log.threads)))
@@ -49,6 +50,7 @@ module _ (threads : Threads) (instr : Instructions) (initial : List ℕ) (log : 
   opened : length (opening initial (length log.threads)).threads ≡ length log.threads
   opened = length-replicate (length log.threads) _
 
+  -- and whole
   pub skip_whole : IsWhole threads (skip_play threads initial log order)
   skip_whole t l =
       let c = turned.counted in
@@ -60,6 +62,7 @@ module _ (threads : Threads) (instr : Instructions) (initial : List ℕ) (log : 
   pub skipped_fit : HasLog threads instr log (skip_play threads initial log order) → Fits threads instr initial log (skip_play threads initial log order).threads
   skipped_fit has = sound_fits threads instr initial log (skip_play threads initial log order) skip_going.sound has skip_whole
 
+  -- where runs fit, the state after the skip play has the log
   pub fit_logged : Respects log order → (runs : List (List Step)) → Fits threads instr initial log runs → HasLog threads instr log (skip_play threads initial log order)
   fit_logged respects runs fits =
       let s = fit_shown threads instr initial log runs order within stops fits respects in

@@ -1,6 +1,6 @@
 -- The worked examples.
 use Rattle.std.proofs.Common.{◌≡◌, ℕ, zero, suc, ◌<◌, ◌≤◌, true, false, List, [], ◌∷◌, length, map, refl, ◌∙◌, ap, subst, arith, inl, inr}
-use Rattle.std.specs.Prelude.{Some, None, Contains, slice_index_or}
+use Rattle.std.specs.Prelude.{Some, None, Contains}
 use Rattle.std.specs.List.{AllByRecursion}
 use Rattle.std.proofs.lemmas.List.Elements.{All-from_recursion}
 use Rattle.light_base.specs.declared.tag.Event.{Event}
@@ -11,10 +11,11 @@ use Rattle.replay_model.specs.Threads.{IsRun}
 use Rattle.replay_model.specs.Histories.{World, move, take_step, play, IsLegal, IsWhole, history_of, round_turns}
 use Rattle.replay_model.specs.WordSteps.{WordStep, part}
 use Rattle.replay_model.specs.ThreadLogs.{thread_log}
-use Rattle.replay_model.specs.Logs.{ThreadLog, no_thread}
+use Rattle.replay_model.specs.Logs.{ThreadLog}
 use Rattle.replay_model.specs.Events.{events_of}
 use Rattle.replay_model.specs.Orders.{place, Respects}
 use Rattle.replay_model.specs.WellFormed.{IsInRange}
+use Rattle.replay_model.specs.RunLogs.{HasLog}
 use Rattle.replay_model.specs.SkipPlay.{moves, turn, turns, finish}
 use Rattle.replay_model.specs.WholeHistories.{IsWholeHistory, history_order}
 use Rattle.replay_laws.specs.Scripts.{Script, one_each}
@@ -22,6 +23,7 @@ use Rattle.replay_laws.specs.Examples
 use Rattle.replay_laws.proofs.Bridge.{word_steps_played}
 use Rattle.replay_laws.proofs.Scripts.{script_within, script_only, script_ends, script_keeps}
 use Rattle.replay_laws.proofs.Places.{place-contains, event-is_event}
+use Rattle.replay_laws.proofs.Verdict.{skipped_fit}
 use Rattle.replay_laws.proofs.HistoryLog.{history_fits, history_respects, history_replayed}
 use Rattle.replay_laws.proofs.WellFormedLog.{history_formed}
 
@@ -67,6 +69,7 @@ lost_update = shown (Examples.increments ∷ Examples.increments ∷ []) (0 ∷ 
     ends (suc zero) l = refl
     ends (suc (suc t)) l = absurd (omega arith)
 
+-- the last write would stand before the read of the initial value
 pub lost_update_refused : Examples.LostUpdateRefused
 unfolding play move take_step thread_log
 lost_update_refused r =
@@ -104,12 +107,14 @@ pub message_passing_elsewise : Examples.MessagePassingElsewise
 unfolding play move take_step thread_log
 message_passing_elsewise = message_passing_sooner.respects
 
+-- the write to word 1 would stand before the last read of its initial value
 pub message_passing_between : Examples.MessagePassingBetween
 unfolding play move take_step thread_log
 message_passing_between r =
     let l : 3 ≤ 1 = r.from_initial 1 1 (Examples.entry 1 None 1 2) (Examples.entry 1 (Some (Examples.at 0 2)) 3 3) (Examples.at 0 2) (0, omega arith, refl) (1, omega arith, refl) refl refl refl in
     omega (arith, l)
 
+-- the read would stand before the write that it saw
 pub message_passing_too_early : Examples.MessagePassingTooEarly
 unfolding play move take_step thread_log
 message_passing_too_early r =
@@ -127,6 +132,7 @@ round_another_read = shown (Examples.reads_round ∷ []) (0 ∷ 0 ∷ []) (0 ∷
     ends zero l = refl
     ends (suc t) l = absurd (omega arith)
 
+-- steps of one thread would stand out of order
 pub round_another_read_refused : Examples.RoundAnotherReadRefused
 round_another_read_refused r =
     let l : 1 < 0 = r.rising (Examples.at 0 1) (Examples.at 0 2) (1, omega arith, refl) (0, omega arith, refl) refl (omega arith) in
@@ -145,6 +151,7 @@ exchange_chain = shown (Examples.exchanges 1 ∷ Examples.exchanges 2 ∷ Exampl
     ends (suc (suc zero)) l = refl
     ends (suc (suc (suc t))) l = absurd (omega arith)
 
+-- the second exchange would stand before the first
 pub exchange_chain_refused : Examples.ExchangeChainRefused
 unfolding play move take_step thread_log
 exchange_chain_refused r =
@@ -164,6 +171,7 @@ blind_stores = shown (Examples.reads_once ∷ Examples.writes 5 ∷ Examples.wri
     ends (suc (suc zero)) l = refl
     ends (suc (suc (suc t))) l = absurd (omega arith)
 
+-- the last write would stand before the read of the initial value
 pub blind_stores_refused : Examples.BlindStoresRefused
 unfolding play move take_step thread_log
 blind_stores_refused r =
@@ -172,6 +180,7 @@ blind_stores_refused r =
     let P : Event → Type 0 = λ x. 1 ≤ place (Examples.at 1 1 ∷ Examples.at 0 1 ∷ []) x in
     let m : 1 ≤ 0 = subst P e l in omega (arith, m)
 
+-- the overwritten store is no event of the log
 pub blind_stores_no_event : Examples.BlindStoresNoEvent
 unfolding play move take_step thread_log
 blind_stores_no_event r =
@@ -189,6 +198,7 @@ same_value_other_writer = shown (Examples.compares ∷ Examples.writes 5 ∷ [])
     ends (suc zero) l = refl
     ends (suc (suc t)) l = absurd (omega arith)
 
+-- an event is missing
 pub same_value_other_writer_refused : Examples.SameValueOtherWriterRefused
 unfolding play move take_step thread_log
 same_value_other_writer_refused r =
@@ -219,12 +229,16 @@ lost_update_bridge = word_steps_played (Examples.example_threads (Examples.incre
 -- a log that no history has, which runs fit all the same
 pub forced_between : Examples.ForcedBetween
 unfolding play move take_step thread_log moves turn turns finish
-forced_between = record { logs = refl; lasts = refl }
-
--- a log that no runs fit
-pub no_fit : Examples.NoFit
-unfolding play move take_step thread_log moves turn turns finish
-no_fit has = let e : (Examples.entry 0 None 1 1 ∷ []) ≡ (Examples.entry 0 (Some (Examples.at 1 1)) 1 1 ∷ []) = ap (λ (x : List ThreadLog). (slice_index_or x 0 no_thread).entries) has.logs in cc e
+forced_between = (
+  has,
+  skipped_fit Examples.forced_between_threads one_each (0 ∷ 0 ∷ []) Examples.forced_between_log (Examples.at 0 1 ∷ Examples.at 0 3 ∷ Examples.at 1 1 ∷ Examples.at 1 2 ∷ Examples.at 1 3 ∷ [])
+      (script_within (Examples.counts ∷ Examples.looks_back ∷ []) 2 Examples.example_limits) (script_only (Examples.counts ∷ Examples.looks_back ∷ []) 2 Examples.example_limits)
+      (script_ends (Examples.counts ∷ Examples.looks_back ∷ []) 2 Examples.example_limits) has,
+  refl,
+)
+  where
+    has : HasLog Examples.forced_between_threads one_each Examples.forced_between_log Examples.forced_between_end
+    has = record { logs = refl; lasts = refl }
 
 -- one entry is allowed
 pub one_entry : Examples.OneEntry

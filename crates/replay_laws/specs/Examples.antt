@@ -7,6 +7,7 @@ use Rattle.replay_model.specs.declared.Entry.{Entry}
 use Rattle.replay_model.specs.declared.Want.{Want}
 use Rattle.replay_model.specs.declared.Want.TheVariants.{Load, Store, Swap, Cond, Ended}
 use Rattle.replay_model.specs.declared.End.TheVariants.{Halted, EntriesFull}
+use Rattle.replay_model.specs.Steps.{Step}
 use Rattle.replay_model.specs.Threads.{Threads}
 use Rattle.replay_model.specs.Histories.{World, rounds, follow}
 use Rattle.replay_model.specs.WordSteps.{WordStep}
@@ -20,9 +21,11 @@ use Rattle.replay_model.specs.WholeHistories.{IsWholeHistory, played, history_lo
 use Rattle.replay_laws.specs.BridgeLaws.{IsPlayed}
 use Rattle.replay_laws.specs.Scripts.{Script, script_threads, one_each}
 
+-- limits that no example reaches
 abbrev pub example_limits : Limits
 example_limits = record { steps = 100; instr = 100; entries = 100 }
 
+-- the threads of these scripts
 abbrev pub example_threads : List Script → List ℕ → Threads
 example_threads scripts initial = script_threads scripts (length initial) example_limits
 
@@ -37,9 +40,11 @@ example_log scripts initial history = history_log (example_threads scripts initi
 abbrev pub at : ℕ → ℕ → Event
 at t n = record { thread = t; step = n }
 
+-- an entry
 abbrev pub entry : ℕ → Tag → ℕ → ℕ → Entry
 entry word source first last = record { word = word; source = source; first = first; last = last }
 
+-- a cell
 abbrev pub cell : ℕ → Tag → Cell
 cell value tag = record { value = value; tag = tag }
 
@@ -231,10 +236,19 @@ forced_between_log = record {
   lasts = Some (at 1 3) ∷ Some (at 0 3) ∷ [];
 }
 
--- A write forced between: the unseen write is no event, so the skip play has the log all the same
+-- the threads of this example
+abbrev pub forced_between_threads : Threads
+forced_between_threads = example_threads (counts ∷ looks_back ∷ []) (0 ∷ 0 ∷ [])
+
+-- the state after the skip play of that log
+abbrev pub forced_between_end : World
+forced_between_end = skip_play forced_between_threads (0 ∷ 0 ∷ []) forced_between_log (at 0 1 ∷ at 0 3 ∷ at 1 1 ∷ at 1 2 ∷ at 1 3 ∷ [])
+
+-- A write forced between: the unseen write is no event, so the skip play has the log all the same, and its runs fit it
 abbrev pub ForcedBetween : Type 0
-ForcedBetween = HasLog (example_threads (counts ∷ looks_back ∷ []) (0 ∷ 0 ∷ [])) one_each forced_between_log
-    (skip_play (example_threads (counts ∷ looks_back ∷ []) (0 ∷ 0 ∷ [])) (0 ∷ 0 ∷ []) forced_between_log (at 0 1 ∷ at 0 3 ∷ at 1 1 ∷ at 1 2 ∷ at 1 3 ∷ []))
+ForcedBetween = HasLog forced_between_threads one_each forced_between_log forced_between_end ×
+    Fits forced_between_threads one_each (0 ∷ 0 ∷ []) forced_between_log forced_between_end.threads ×
+    (forced_between_end.memory ≡ cell 9 (Some (at 1 3)) ∷ cell 3 (Some (at 0 3)) ∷ [])
 
 -- a log in which a thread that only reads has written
 abbrev pub no_fit_log : Log
@@ -246,10 +260,19 @@ no_fit_log = record {
   lasts = Some (at 1 1) ∷ [];
 }
 
--- No fit: the skip play does not have the log
+-- an order of its events
+abbrev pub no_fit_order : List Event
+no_fit_order = at 1 1 ∷ at 0 1 ∷ []
+
+-- two threads that only read
+abbrev pub no_fit_threads : Threads
+no_fit_threads = example_threads (reads_once ∷ reads_once ∷ []) (5 ∷ [])
+
+-- No fit: an order respects the log, but the skip play by it does not have the log, and no runs fit it
 abbrev pub NoFit : Type 0
-NoFit = HasLog (example_threads (reads_once ∷ reads_once ∷ []) (5 ∷ [])) one_each no_fit_log
-    (skip_play (example_threads (reads_once ∷ reads_once ∷ []) (5 ∷ [])) (5 ∷ []) no_fit_log (at 1 1 ∷ at 0 1 ∷ [])) → ⊥
+NoFit = Respects no_fit_log no_fit_order ×
+    (HasLog no_fit_threads one_each no_fit_log (skip_play no_fit_threads (5 ∷ []) no_fit_log no_fit_order) → ⊥) ×
+    ((runs : List (List Step)) → Fits no_fit_threads one_each (5 ∷ []) no_fit_log runs → ⊥)
 
 -- reads word 0, writes word 1 and reads word 1
 abbrev pub reads_twice : Script
@@ -258,6 +281,7 @@ reads_twice (c ∷ []) = Store 1 0
 reads_twice (c ∷ d ∷ []) = Load 1
 reads_twice (c ∷ d ∷ e ∷ rest) = Ended Halted
 
+-- limits with room for one entry
 abbrev pub one_entry_limits : Limits
 one_entry_limits = record { steps = 100; instr = 100; entries = 1 }
 

@@ -18,6 +18,7 @@ Script = List Cell → Want
 abbrev pub silent : Script
 silent cells = Ended Halted
 
+-- what each step found
 abbrev pub cells_found : List Step → List Cell
 cells_found steps = map (λ (step : Step). unwrap_or step.found no_cell) steps
 

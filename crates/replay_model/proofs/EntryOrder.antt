@@ -17,16 +17,19 @@ use Rattle.replay_model.proofs.MoreReads.{thread_log-push, thread_log-quiet}
 abbrev pub IsRising : List Entry → Type 0
 IsRising es = (i j : ℕ) (d : Entry) → i < j → j < length es → (slice_index_or es i d).first < (slice_index_or es j d).first
 
+-- one more entry in front of those that rise
 pub rising-cons : (e : Entry) (es : List Entry) → ((x : Entry) → Contains es x → e.first < x.first) → IsRising es → IsRising (e ∷ es)
 rising-cons e es below rising i zero d ij jl = absurd (omega arith)
 rising-cons e es below rising zero (suc j) d ij jl = below (slice_index_or es j d) (Contains-get_or es j d (omega arith))
 rising-cons e es below rising (suc i) (suc j) d ij jl = rising i j d (omega arith) (omega arith)
 
+-- no entry begins before the steps that it is made of
 pub entries_from-above : (whole : List Step) (n : ℕ) (rest : List Step) (entry : Entry) → Contains (entries_from whole n rest) entry → n ≤ entry.first
 entries_from-above whole n rest entry c =
     let (k, cell, l, q, e, le) = entries_from-comes whole n rest entry c in
     let f : entry.first ≡ n + k = ap (λ (x : Entry). x.first) e in omega arith
 
+-- the entries of any rest of the steps rise
 pub entries_from-rising : (whole : List Step) (n : ℕ) (rest : List Step) → IsRising (entries_from whole n rest)
 entries_from-rising whole n [] = λ i j d ij jl. absurd (omega arith)
 entries_from-rising whole n (s ∷ rest) = at s.found (entries_from-rising whole (n + 1) rest)
@@ -40,6 +43,7 @@ entries_from-rising whole n (s ∷ rest) = at s.found (entries_from-rising whole
         go true = rising-cons (entry_for whole n (word_of s.want) cell) (entries_from whole (n + 1) rest)
             (λ x c. let a = entries_from-above whole (n + 1) rest x c in omega arith) ih
 
+-- so do those of the log
 pub thread_log-rising : (steps : List Step) → IsRising (thread_log steps)
 unfolding thread_log
 thread_log-rising steps = entries_from-rising steps 1 steps
@@ -78,6 +82,7 @@ with_read-length word tag n entries =
     one true new = omega arith
     one false new = omega arith
 
+-- no step, no entry
 pub no_entries : length (thread_log []) ≡ 0
 unfolding thread_log
 no_entries = refl

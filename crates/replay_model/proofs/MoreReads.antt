@@ -1,19 +1,23 @@
 -- The log of a thread after one more step.
-use Rattle.std.proofs.Common.{◌≡◌, ℕ, suc, ◌+◌, ◌-◌, ◌<◌, ◌≤◌, Bool, true, false, cond, eqb, List, [], ◌∷◌, ◌++◌, length, refl, sym, ◌∙◌, ap, subst, arith, inl, inr, ◌⊎◌, map}
-use Rattle.std.specs.Prelude.{Option, Some, None, ◌&&◌, max}
+use Rattle.std.proofs.Common.{◌≡◌, ℕ, suc, ◌+◌, ◌-◌, ◌<◌, ◌≤◌, Bool, true, false, cond, eqb, List, [], ◌∷◌, ◌++◌, length, refl, sym, ◌∙◌, ap, subst, arith, inl, inr, ◌⊎◌, map, Contains}
+use Rattle.std.specs.Prelude.{Option, Some, None, ◌&&◌, max, All, slice_index_or, slice_set, ◌≢◌}
 use Rattle.std.specs.List.{list_any}
-use Rattle.std.proofs.lemmas.List.{append_assoc, append-nil, map-append}
-use Rattle.std.proofs.lemmas.Bool.{cases_Bool, eq-eqb, eqb-true, ne_eqb, and_from, and_parts, cond-true, cond-false}
+use Rattle.std.proofs.lemmas.List.{append_assoc, append-nil, map-append, length-map, length-set, get_or-map, get_or-set_same, get_or-set_other, get_or_default, same_lists}
+use Rattle.std.proofs.lemmas.Bool.{cases_Bool, eq-eqb, eqb-true, ne_eqb, and_from, and_parts, cond-true, cond-false, cases_eq}
 use Rattle.replay_model.specs.Steps.{Tag, Cell, Step, same_tag, word_of}
 use Rattle.replay_model.specs.ThreadLogs.{Entry, saw, is_sight, numbers, least, greatest, entry_at, entries_from, thread_log}
 use Rattle.replay_model.specs.MoreReads.{is_entry_for, touched, with_read}
 use Rattle.replay_model.proofs.Tags.{same_tag-true, same_tag-same, any-element, element-any}
 use Rattle.replay_model.proofs.ThreadLogs.{nth, saw-found, saw-from, entry_for, greatest_over, greatest_at, thread_log-covers, thread_log-stands}
+use Rattle.std.proofs.lemmas.List.Elements.{All-weaker, All-contains_itself}
+use Rattle.std.proofs.lemmas.List.Folds.{map_fixed, list_any_none, list_any_at}
 
+-- whether there is no number
 abbrev pub is_nil : List ℕ → Bool
 is_nil [] = true
 is_nil (n ∷ ns) = false
 
+-- the numbers of a pair after one more step
 pub numbers-push : (word : ℕ) (tag : Tag) (n : ℕ) (steps : List Step) (s : Step) →
     numbers word tag n (steps ++ s ∷ []) ≡ numbers word tag n steps ++ cond (saw word tag s) ((n + length steps) ∷ []) []
 numbers-push word tag n [] s =
@@ -30,14 +34,17 @@ numbers-push word tag n (x ∷ steps) s = go (numbers-push word tag (n + 1) step
     go ih (inl t) = rw t (ap (λ (y : List ℕ). n ∷ y) (ih ∙ ap (λ (k : ℕ). numbers word tag (n + 1) steps ++ cond (saw word tag s) (k ∷ []) []) z))
     go ih (inr f) = rw f (ih ∙ ap (λ (k : ℕ). numbers word tag (n + 1) steps ++ cond (saw word tag s) (k ∷ []) []) z)
 
+-- more numbers at the end leave the least
 pub least-append : (xs ys : List ℕ) → (xs ≡ [] → ⊥) → least (xs ++ ys) ≡ least xs
 least-append [] ys n = absurd (n refl)
 least-append (x ∷ xs) ys n = refl
 
+-- and may raise the greatest
 pub greatest-push : (xs : List ℕ) (m : ℕ) → greatest (xs ++ m ∷ []) ≡ max (greatest xs) m
 greatest-push [] m = omega arith
 greatest-push (x ∷ xs) m = let h = greatest-push xs m in omega (arith, h)
 
+-- no number is past the last step
 pub greatest_below : (word : ℕ) (tag : Tag) (n : ℕ) (steps : List Step) → greatest (numbers word tag n steps) ≤ n + length steps
 greatest_below word tag n [] = omega arith
 greatest_below word tag n (x ∷ steps) = go (greatest_below word tag (n + 1) steps) (cases_Bool (saw word tag x))
@@ -47,6 +54,7 @@ greatest_below word tag n (x ∷ steps) = go (greatest_below word tag (n + 1) st
     go ih (inl t) = rw t (omega (arith, ih))
     go ih (inr f) = rw f (omega (arith, ih))
 
+-- the entries of one more step come at the end
 pub entries_from-append : (whole : List Step) (n : ℕ) (xs : List Step) (s : Step) →
     entries_from whole n (xs ++ s ∷ []) ≡ entries_from whole n xs ++ entry_at whole (n + length xs) (word_of s.want) s.found
 entries_from-append whole n [] s =
@@ -85,6 +93,7 @@ entry_at-push whole n word (Some c) s cell q some =
     one true new e = ap (λ (x : Entry). x ∷ []) e
     one false new e = refl
 
+-- the entries of all earlier steps, after one more read
 pub entries_from-push : (whole : List Step) (n : ℕ) (rest : List Step) (s : Step) (cell : Cell) → s.found ≡ Some cell →
     ((k : ℕ) (c : Cell) → k < length rest → (nth rest k).found ≡ Some c → numbers (word_of (nth rest k).want) c.tag 1 whole ≡ [] → ⊥) →
     entries_from (whole ++ s ∷ []) n rest ≡ map (touched (word_of s.want) cell.tag (length whole + 1)) (entries_from whole n rest)
@@ -96,6 +105,7 @@ entries_from-push whole n (x ∷ rest) s cell q some =
     ap (λ (y : List Entry). map (touched (word_of s.want) cell.tag (length whole + 1)) (entry_at whole n (word_of x.want) x.found) ++ y) b ∙
     sym (map-append (touched (word_of s.want) cell.tag (length whole + 1)) (entry_at whole n (word_of x.want) x.found) (entries_from whole (n + 1) rest))
 
+-- the least number is none of a step to come
 pub least_below : (word : ℕ) (tag : Tag) (n : ℕ) (steps : List Step) → least (numbers word tag (n + 1) steps) ≤ n + length steps
 least_below word tag n [] = omega arith
 least_below word tag n (x ∷ steps) = go (least_below word tag (n + 1) steps) (cases_Bool (saw word tag x))
@@ -189,6 +199,7 @@ numbers-quiet word tag n steps s q =
     ap (λ (f : Option Cell). numbers word tag n steps ++ cond (is_sight word tag (word_of s.want) f) ((n + length steps) ∷ []) []) q ∙
     append-nil (numbers word tag n steps)
 
+-- entries follow from the numbers alone
 pub entries_from-same : (one two : List Step) → ((word : ℕ) (tag : Tag) → numbers word tag 1 one ≡ numbers word tag 1 two) →
     (n : ℕ) (rest : List Step) → entries_from one n rest ≡ entries_from two n rest
 entries_from-same one two same n [] = refl
@@ -209,3 +220,53 @@ thread_log-quiet steps s q =
     ap (λ (f : Option Cell). entries_from (steps ++ s ∷ []) 1 steps ++ entry_at (steps ++ s ∷ []) (1 + length steps) (word_of s.want) f) q ∙
     append-nil (entries_from (steps ++ s ∷ []) 1 steps) ∙
     entries_from-same (steps ++ s ∷ []) steps (λ word tag. numbers-quiet word tag 1 steps s q) 1 steps
+
+-- where no entry is the pair's, one is added
+pub with_read-new : (word : ℕ) (tag : Tag) (n : ℕ) (entries : List Entry) → ((entry : Entry) → Contains entries entry → is_entry_for word tag entry ≡ false) →
+    with_read word tag n entries ≡ entries ++ record { word = word; source = tag; first = n; last = n } ∷ []
+with_read-new word tag n entries none =
+    ap (λ (x : List Entry). x ++ cond (list_any (is_entry_for word tag) entries) [] new) (map_fixed (touched word tag n) entries same) ∙
+    ap (λ (b : Bool). entries ++ cond b [] new) (list_any_none (is_entry_for word tag) entries absent)
+  where
+    new : List Entry
+    new = record { word = word; source = tag; first = n; last = n } ∷ []
+
+    absent : All (λ (x : Entry). is_entry_for word tag x ≡ false) entries
+    absent = All-weaker (Contains entries) (λ x. is_entry_for word tag x ≡ false) none entries (All-contains_itself entries)
+
+    same : All (λ (x : Entry). touched word tag n x ≡ x) entries
+    same = All-weaker (λ (x : Entry). is_entry_for word tag x ≡ false) (λ x. touched word tag n x ≡ x)
+        (λ x f. ap (λ (b : Bool). record { word = x.word; source = x.source; first = x.first; last = cond b n x.last }) f) entries absent
+
+-- where the entry at k alone is the pair's, its last changes
+pub with_read-set : (word : ℕ) (tag : Tag) (n : ℕ) (entries : List Entry) (k : ℕ) (d : Entry) → k < length entries →
+    is_entry_for word tag (slice_index_or entries k d) ≡ true →
+    ((j : ℕ) → j ≢ k → j < length entries → is_entry_for word tag (slice_index_or entries j d) ≡ false) →
+    with_read word tag n entries ≡
+    slice_set entries k (record { word = (slice_index_or entries k d).word; source = (slice_index_or entries k d).source; first = (slice_index_or entries k d).first; last = n })
+with_read-set word tag n entries k d l here others =
+    ap (λ (b : Bool). map (touched word tag n) entries ++ cond b [] (record { word = word; source = tag; first = n; last = n } ∷ []))
+    (list_any_at (is_entry_for word tag) entries k d l here) ∙
+    append-nil (map (touched word tag n) entries) ∙ same_lists (map (touched word tag n) entries) (slice_set entries k set) (length-map entries (touched word tag n) ∙ sym (length-set entries k set)) at
+  where
+    set : Entry
+    set = record { word = (slice_index_or entries k d).word; source = (slice_index_or entries k d).source; first = (slice_index_or entries k d).first; last = n }
+
+    at : (j : ℕ) (x : Entry) → j < length (map (touched word tag n) entries) → slice_index_or (map (touched word tag n) entries) j x ≡ slice_index_or (slice_set entries k set) j x
+    at j x jl = go (cases_eq j k)
+      where
+        n_is : length (map (touched word tag n) entries) ≡ length entries
+        n_is = length-map entries (touched word tag n)
+
+        je : j < length entries
+        je = let q = n_is in omega (arith, q, jl)
+
+        go : (j ≡ k) ⊎ (j ≡ k → ⊥) → slice_index_or (map (touched word tag n) entries) j x ≡ slice_index_or (slice_set entries k set) j x
+        go (inl e) =
+            get_or-map (touched word tag n) entries j d x je ∙ ap (λ i. touched word tag n (slice_index_or entries i d)) e ∙
+            ap (λ (b : Bool). record { word = (slice_index_or entries k d).word; source = (slice_index_or entries k d).source; first = (slice_index_or entries k d).first; last = cond b n (slice_index_or entries k d).last }) here ∙
+            sym (ap (λ i. slice_index_or (slice_set entries k set) i x) e ∙ get_or-set_same entries k set x l)
+        go (inr ne) =
+            get_or-map (touched word tag n) entries j d x je ∙
+            ap (λ (b : Bool). record { word = (slice_index_or entries j d).word; source = (slice_index_or entries j d).source; first = (slice_index_or entries j d).first; last = cond b n (slice_index_or entries j d).last }) (others j ne je) ∙
+            sym (get_or-set_other entries k j set x ne ∙ get_or_default entries j x d je)

@@ -15,9 +15,11 @@ in_range runs t k h = go (cases_lt t (length runs))
     go (inl l) = l
     go (inr l) = let e = ap length (get_or_past runs t [] l) in absurd (omega arith)
 
+-- the thread whose steps were set has them
 pub set_here : (runs : List (List Step)) (t : ℕ) (steps : List Step) → t < length runs → steps_of (slice_set runs t steps) t ≡ steps
 set_here runs t steps h = get_or-set_same runs t steps [] h
 
+-- another has its own still
 pub set_there : (runs : List (List Step)) (t u : ℕ) (steps : List Step) → (u ≡ t → ⊥) → steps_of (slice_set runs t steps) u ≡ steps_of runs u
 set_there runs t u steps h = get_or-set_other runs t u steps [] h
 
@@ -55,6 +57,7 @@ unfolding move take_step
 move_shape threads keep t world w p h =
     ap (λ (x : Want). cond (has_ended x) world (take_step keep t x world)) p ∙ cond-false (has_ended w) world (take_step keep t w world) h
 
+-- a thread that has ended does not move
 pub move_ended : (threads : Threads) (keep : Event → Bool) (t : ℕ) (world : World) →
     has_ended (wanted threads t world) ≡ true → move threads keep t world ≡ world
 unfolding move
@@ -68,12 +71,14 @@ move_steps threads keep t world w l p h =
     ap (λ (x : World). steps_of x.threads t) (move_shape threads keep t world w p h) ∙
     set_here world.threads t (steps_of world.threads t ++ step_in world.memory w ∷ []) l
 
+-- the thread that moves has one step more
 pub move_here : (threads : Threads) (keep : Event → Bool) (t : ℕ) (world : World) (w : Want) → t < length world.threads →
     wanted threads t world ≡ w → has_ended w ≡ false →
     length (steps_of (move threads keep t world).threads t) ≡ length (steps_of world.threads t) + 1
 move_here threads keep t world w l p h =
     ap length (move_steps threads keep t world w l p h) ∙ length_push (steps_of world.threads t) (step_in world.memory w)
 
+-- another has as many as before
 pub move_there : (threads : Threads) (keep : Event → Bool) (t u : ℕ) (world : World) → (u ≡ t → ⊥) →
     steps_of (move threads keep t world).threads u ≡ steps_of world.threads u
 move_there threads keep t u world n = go (cases_Bool (has_ended (wanted threads t world)))
@@ -97,6 +102,7 @@ move_count threads keep t world = go (cases_Bool (has_ended (wanted threads t wo
 pub found_in-some : (memory : List Cell) (w : Want) → is_some (found_in memory w) ≡ reads w
 found_in-some memory w = elim (reads w) as (λ b. is_some (cond b (Some (slice_index_or memory (word_of w) no_cell)) None) ≡ b) [ true ↦ refl | false ↦ refl ]
 
+-- what is found is the cell of the word
 pub found_in-cell : (memory : List Cell) (w : Want) (cell : Cell) → found_in memory w ≡ Some cell → cell ≡ slice_index_or memory (word_of w) no_cell
 found_in-cell memory w cell h = go (cases_Bool (reads w))
   where

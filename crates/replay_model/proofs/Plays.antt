@@ -13,6 +13,7 @@ use Rattle.replay_model.proofs.Moves.{move_shape, move_ended, move_count}
 abbrev pub HaveEnded : Threads → World → Type 0
 HaveEnded threads world = (t : ℕ) → has_ended (wanted threads t world) ≡ true
 
+-- a play goes on where the first part led
 pub play-append : (threads : Threads) (xs ys : List ℕ) (world : World) → play threads (xs ++ ys) world ≡ play threads ys (play threads xs world)
 unfolding play
 play-append threads [] ys world = refl
@@ -29,6 +30,7 @@ unfolding play
 play_count threads [] world = refl
 play_count threads (t ∷ xs) world = play_count threads xs (move threads keep_all t world) ∙ move_count threads keep_all t world
 
+-- two legal parts are legal together
 pub legal-append : (threads : Threads) (xs ys : List ℕ) (world : World) → IsLegal threads xs world → IsLegal threads ys (play threads xs world) → IsLegal threads (xs ++ ys) world
 unfolding play IsLegal
 legal-append threads [] ys world p q = q
@@ -39,6 +41,7 @@ pub legal-push : (threads : Threads) (xs : List ℕ) (t : ℕ) (world : World) �
 unfolding IsLegal
 legal-push threads xs t world p h = legal-append threads xs (t ∷ []) world p (h, tt)
 
+-- the history of turns after others
 pub history_of-append : (threads : Threads) (xs ys : List ℕ) (world : World) →
     history_of threads (xs ++ ys) world ≡ history_of threads xs world ++ history_of threads ys (play threads xs world)
 unfolding play history_of
@@ -91,6 +94,7 @@ history_of-ended threads (t ∷ turns) world h =
     ap (λ (b : Bool). cond b [] (t ∷ []) ++ history_of threads turns (move threads keep_all t world)) (h t) ∙
     ap (λ (w : World). history_of threads turns w) (move_ended threads keep_all t world (h t)) ∙ history_of-ended threads turns world h
 
+-- nor does a play of them
 pub play-ended : (threads : Threads) (turns : List ℕ) (world : World) → HaveEnded threads world → play threads turns world ≡ world
 unfolding play
 play-ended threads [] world h = refl
@@ -109,6 +113,7 @@ pub length-put : (memory : List Cell) (word : ℕ) (event : Event) (value : Opti
 length-put memory word event None = refl
 length-put memory word event (Some value) = length-set memory word _
 
+-- nor does a turn
 pub move_memory : (threads : Threads) (t : ℕ) (world : World) → length (move threads keep_all t world).memory ≡ length world.memory
 move_memory threads t world = go (cases_Bool (has_ended (wanted threads t world)))
   where
@@ -118,6 +123,7 @@ move_memory threads t world = go (cases_Bool (has_ended (wanted threads t world)
         ap (λ (w : World). length w.memory) (move_shape threads keep_all t world (wanted threads t world) refl e) ∙
         length-put world.memory (word_of (wanted threads t world)) (next_event t world) (wrote (wanted threads t world) (found_in world.memory (wanted threads t world)))
 
+-- nor a play
 pub play_memory : (threads : Threads) (xs : List ℕ) (world : World) → length (play threads xs world).memory ≡ length world.memory
 unfolding play
 play_memory threads [] world = refl
@@ -135,6 +141,7 @@ unfolding moves
 moves-push threads keep zero t world = refl
 moves-push threads keep (suc n) t world = moves-push threads keep n t (move threads keep t world)
 
+-- steps of a thread after others
 pub moves-add : (threads : Threads) (keep : Event → Bool) (m n t : ℕ) (world : World) → moves threads keep (m + n) t world ≡ moves threads keep n t (moves threads keep m t world)
 unfolding moves
 moves-add threads keep zero n t world = let z : 0 + n ≡ n = omega arith in ap (λ k. moves threads keep k t world) z

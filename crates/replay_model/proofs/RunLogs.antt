@@ -11,10 +11,12 @@ use Rattle.replay_model.specs.ThreadLogs.{thread_log}
 use Rattle.replay_model.specs.Logs.{ThreadLog, Log, no_thread, thread_of, HasEntry}
 use Rattle.replay_model.specs.RunLogs.{Instructions, run_log, run_logs_from, run_logs}
 
+-- one log for each run
 pub run_logs_from-length : (threads : Threads) (instr : Instructions) (m : ℕ) (runs : List (List Step)) → length (run_logs_from threads instr m runs) ≡ length runs
 run_logs_from-length threads instr m [] = refl
 run_logs_from-length threads instr m (run ∷ runs) = ap suc (run_logs_from-length threads instr (m + 1) runs)
 
+-- each thread's log at its place
 pub run_logs_from-at : (threads : Threads) (instr : Instructions) (m : ℕ) (runs : List (List Step)) (t : ℕ) (d : ThreadLog) → t < length runs →
     slice_index_or (run_logs_from threads instr m runs) t d ≡ run_log threads instr (m + t) (steps_of runs t)
 run_logs_from-at threads instr m [] t d l = absurd (omega (arith, l))
@@ -31,9 +33,11 @@ run_logs-at threads instr runs t d l =
     run_logs_from-at threads instr 0 runs t d l ∙ ap (λ n. run_log threads instr n (steps_of runs t)) z
 
 module _ (threads : Threads) (instr : Instructions) (log : Log) (runs : List (List Step)) (logs : log.threads ≡ run_logs threads instr runs) where
+  -- the log has as many threads as runs
   pub logged_threads : length log.threads ≡ length runs
   logged_threads = ap length logs ∙ run_logs_from-length threads instr 0 runs
 
+  -- what is logged of a thread is the log of its run
   pub logged_thread : (t : ℕ) → t < length runs → thread_of log t ≡ run_log threads instr t (steps_of runs t)
   logged_thread t l = ap (λ (x : List ThreadLog). slice_index_or x t no_thread) logs ∙ run_logs-at threads instr runs t no_thread l
 
@@ -47,5 +51,6 @@ module _ (threads : Threads) (instr : Instructions) (log : Log) (runs : List (Li
           let n = logged_threads in
           let e = ap (λ (x : ThreadLog). length x.entries) (get_or_past log.threads t no_thread (omega arith)) in absurd (omega (arith, kl, e))
 
+  -- and the other way round
   pub logged-entry : (t : ℕ) (entry : Entry) → t < length runs → Contains (thread_log (steps_of runs t)) entry → HasEntry log t entry
   logged-entry t entry l c = subst (λ (x : ThreadLog). Contains x.entries entry) (sym (logged_thread t l)) c

@@ -8,9 +8,11 @@ use Rattle.replay_model.specs.Threads.{no_step}
 use Rattle.replay_model.specs.ThreadLogs.{Entry, saw, is_sight, numbers, least, greatest, entry_at, entries_from, thread_log}
 use Rattle.replay_model.proofs.Tags.{same_tag-true, same_tag-same}
 
+-- the step at k
 abbrev pub nth : List Step → ℕ → Step
 nth steps k = slice_index_or steps k no_step
 
+-- a sight is a cell with this tag in this word
 pub saw-found : (word : ℕ) (tag : Tag) (at : ℕ) (found : Option Cell) → is_sight word tag at found ≡ true →
     (cell : Cell) × (found ≡ Some cell) × (at ≡ word) × (cell.tag ≡ tag)
 saw-found word tag at None h = cc
@@ -18,6 +20,7 @@ saw-found word tag at (Some cell) h =
     let p = and_parts (eqb at word) (same_tag cell.tag tag) h in
     (cell, refl, eqb-true at word p.0, same_tag-true cell.tag tag p.1)
 
+-- a step that found a cell saw its tag in its word
 pub saw-from : (step : Step) (cell : Cell) → step.found ≡ Some cell → saw (word_of step.want) cell.tag step ≡ true
 saw-from step cell q =
     let h : is_sight (word_of step.want) cell.tag (word_of step.want) (Some cell) ≡ true = and_from (eqb (word_of step.want) (word_of step.want)) (same_tag cell.tag cell.tag) (eq-eqb _ _ refl) (same_tag-same cell.tag) in
@@ -40,6 +43,7 @@ least_at word tag (s ∷ steps) n k l h = go k l h (least_at word tag steps (n +
         let (j, le, e, sj) = ih k (omega arith) h in
         (suc j, omega arith, rw f (omega arith), sj)
 
+-- the greatest number is none less than that of a step that saw the same
 pub greatest_over : (word : ℕ) (tag : Tag) (steps : List Step) (n k : ℕ) → k < length steps → saw word tag (nth steps k) ≡ true →
     n + k ≤ greatest (numbers word tag n steps)
 greatest_over word tag [] n k l h = absurd (omega (arith, l))
@@ -73,6 +77,7 @@ greatest_at word tag (s ∷ steps) n = go (greatest_at word tag steps (n + 1)) (
 abbrev pub entry_for : List Step → ℕ → ℕ → Cell → Entry
 entry_for whole n word cell = record { word = word; source = cell.tag; first = n; last = greatest (numbers word cell.tag 1 whole) }
 
+-- the first step that saw a pair has its entry
 pub entry_at-has : (whole : List Step) (n word : ℕ) (found : Option Cell) (cell : Cell) → found ≡ Some cell →
     least (numbers word cell.tag 1 whole) ≡ n → Contains (entry_at whole n word found) (entry_for whole n word cell)
 entry_at-has whole n word found cell q e =
@@ -81,6 +86,7 @@ entry_at-has whole n word found cell q e =
     let Q : Bool → Type 0 = λ b. Contains (cond b (entry_for whole n word cell ∷ []) []) (entry_for whole n word cell) in
     subst P (sym q) (subst Q (sym t) (0, omega arith, refl))
 
+-- an entry comes of such a step
 pub entry_at-comes : (whole : List Step) (n word : ℕ) (found : Option Cell) (entry : Entry) → Contains (entry_at whole n word found) entry →
     (cell : Cell) × (found ≡ Some cell) × (entry ≡ entry_for whole n word cell) × (least (numbers word cell.tag 1 whole) ≡ n)
 entry_at-comes whole n word None entry (k, l, h) = absurd (omega (arith, l))
@@ -98,6 +104,7 @@ entry_at-comes whole n word (Some cell) entry c = go (cases_Bool (eqb (least (nu
         let Q : Bool → Type 0 = λ b. Contains (cond b (entry_for whole n word cell ∷ []) []) entry in
         let (k, l, h) = subst Q f c in absurd (omega arith)
 
+-- the same for the rest of the steps
 pub entries_from-has : (whole : List Step) (n : ℕ) (rest : List Step) (k : ℕ) (cell : Cell) → k < length rest → (nth rest k).found ≡ Some cell →
     least (numbers (word_of (nth rest k).want) cell.tag 1 whole) ≡ n + k →
     Contains (entries_from whole n rest) (entry_for whole (n + k) (word_of (nth rest k).want) cell)
@@ -113,6 +120,7 @@ entries_from-has whole n (s ∷ rest) (suc k) cell l q e =
     subst P z (Contains-append_right (entry_at whole n (word_of s.want) s.found) (entries_from whole (n + 1) rest) _
     (entries_from-has whole (n + 1) rest k cell (omega arith) q (e ∙ sym z)))
 
+-- and the other way round
 pub entries_from-comes : (whole : List Step) (n : ℕ) (rest : List Step) (entry : Entry) → Contains (entries_from whole n rest) entry →
     (k : ℕ) × (cell : Cell) × (k < length rest) × ((nth rest k).found ≡ Some cell) × (entry ≡ entry_for whole (n + k) (word_of (nth rest k).want) cell) ×
     (least (numbers (word_of (nth rest k).want) cell.tag 1 whole) ≡ n + k)
@@ -163,6 +171,7 @@ pub record Stands (steps : List Step) (entry : Entry) : Type 0 where
   pub first : saw entry.word entry.source (nth steps (entry.first - 1)) ≡ true
   pub last : saw entry.word entry.source (nth steps (entry.last - 1)) ≡ true
 
+-- each entry of the log stands for reads
 pub thread_log-stands : (steps : List Step) (entry : Entry) → Contains (thread_log steps) entry → Stands steps entry
 unfolding thread_log
 thread_log-stands steps entry c =

@@ -4,7 +4,7 @@ use Rattle.std.specs.Prelude.{Contains, Option, Some, None, slice_index_or, slic
 use Rattle.std.proofs.lemmas.List.{length-set, length-map, length_push, get_or-map, get_or-set_same, get_or-set_other, get_or_past, append_assoc, append-nil}
 use Rattle.std.proofs.lemmas.List.Elements.{Contains-push, Contains-push_cases, Contains-append_left}
 use Rattle.std.proofs.lemmas.Bool.{cases_eq, cases_lt}
-use Rattle.replay_model.specs.Steps.{Event, Cell, Step, word_of, wrote, no_cell, found_in, put, initial_cells}
+use Rattle.replay_model.specs.Steps.{Event, Cell, word_of, wrote, no_cell, found_in, put, initial_cells}
 use Rattle.replay_model.specs.WordSteps.{WordStep, event_of, part, Folds}
 use Rattle.replay_model.proofs.Moves.{found_in-cell}
 use Rattle.replay_model.proofs.WordSteps.{part_push, part_push_other}
@@ -23,6 +23,7 @@ pub record IsKnown (initial : List ℕ) (list : List WordStep) (memory : List Ce
   pub cells : (word : ℕ) → IsFromList initial list word (slice_index_or memory word no_cell)
   pub found : (e : WordStep) (cell : Cell) → Contains list e → e.found ≡ Some cell → IsFromList initial list (word_of e.want) cell
 
+-- at the start nothing was written
 pub known_start : (initial : List ℕ) → IsKnown initial [] (initial_cells initial)
 known_start initial = record {
   sized = length-map initial _;
@@ -122,6 +123,7 @@ module _ (initial : List ℕ) (list : List WordStep) (memory : List Cell) (e : W
   sized_next None = known.sized
   sized_next (Some v) = length-set memory (word_of e.want) _ ∙ known.sized
 
+  -- one more step keeps it
   pub known_next : IsKnown initial (list ++ e ∷ []) (put memory (word_of e.want) (event_of e) (wrote e.want e.found))
   known_next = record {
     sized = sized_next (wrote e.want e.found);
@@ -131,6 +133,7 @@ module _ (initial : List ℕ) (list : List WordStep) (memory : List Cell) (e : W
     found = found_next;
   }
 
+-- and so does a whole list
 pub known_after : (initial : List ℕ) (list earlier : List WordStep) (memory last : List Cell) → IsKnown initial earlier memory → Folds earlier memory list last → IsKnown initial (earlier ++ list) last
 known_after initial [] earlier memory last known folds = subst (λ (x : List WordStep). IsKnown initial x last) (sym (append-nil earlier)) (subst (IsKnown initial earlier) folds known)
 known_after initial (e ∷ list) earlier memory last known folds =

@@ -5,9 +5,11 @@ use Rattle.std.proofs.lemmas.Bool.{cases_Bool, eq-eqb, ne_eqb, cond-true, cond-f
 use Rattle.replay_model.specs.Steps.{Cell, Step, word_of, wrote, found_in, put}
 use Rattle.replay_model.specs.WordSteps.{WordStep, event_of, part, Folds}
 
+-- the step without its thread and number
 abbrev pub step_of : WordStep → Step
 step_of e = record { want = e.want; found = e.found }
 
+-- the part of two lists
 pub part-append : (t : ℕ) (xs ys : List WordStep) → part t (xs ++ ys) ≡ part t xs ++ part t ys
 part-append t [] ys = refl
 part-append t (e ∷ xs) ys = go (cases_Bool (eqb e.thread t)) (part-append t xs ys)
@@ -17,9 +19,11 @@ part-append t (e ∷ xs) ys = go (cases_Bool (eqb e.thread t)) (part-append t xs
     go (inl q) ih = rw q (ap (λ (s : List Step). step_of e ∷ s) ih)
     go (inr q) ih = rw q ih
 
+-- a step is in the part of its thread
 pub part_own : (e : WordStep) (list : List WordStep) → part e.thread (e ∷ list) ≡ step_of e ∷ part e.thread list
 part_own e list = ap (λ (s : List Step). s ++ part e.thread list) (cond-true (eqb e.thread e.thread) (step_of e ∷ []) [] (eq-eqb e.thread e.thread refl))
 
+-- and in no other
 pub part_other : (u : ℕ) (e : WordStep) (list : List WordStep) → (u ≡ e.thread → ⊥) → part u (e ∷ list) ≡ part u list
 part_other u e list n = ap (λ (s : List Step). s ++ part u list) (cond-false (eqb e.thread u) (step_of e ∷ []) [] (ne_eqb e.thread u (λ q. n (sym q))))
 
@@ -27,6 +31,7 @@ part_other u e list n = ap (λ (s : List Step). s ++ part u list) (cond-false (e
 pub part_push : (e : WordStep) (list : List WordStep) → part e.thread (list ++ e ∷ []) ≡ part e.thread list ++ step_of e ∷ []
 part_push e list = part-append e.thread list (e ∷ []) ∙ ap (λ (s : List Step). part e.thread list ++ s) (part_own e [])
 
+-- another part stays
 pub part_push_other : (u : ℕ) (e : WordStep) (list : List WordStep) → (u ≡ e.thread → ⊥) → part u (list ++ e ∷ []) ≡ part u list
 part_push_other u e list n =
     part-append u list (e ∷ []) ∙ ap (λ (s : List Step). part u list ++ s) (part_other u e [] n) ∙ append-nil (part u list)

@@ -17,6 +17,7 @@ moves threads keep (suc n) t world = moves threads keep n t (move threads keep t
 unfoldable pub turn : Threads → (Event → Bool) → Event → World → World
 turn threads keep event world = moves threads keep (event.step - length (steps_of world.threads event.thread)) event.thread world
 
+-- the turns of an order
 unfoldable pub turns : Threads → (Event → Bool) → List Event → World → World
 turns threads keep [] world = world
 turns threads keep (event ∷ order) world = turns threads keep order (turn threads keep event world)

@@ -1,8 +1,7 @@
 -- Threads as functions of what they did: what a thread wants next follows from its memory steps so far.
-use Rattle.std.specs.Prelude.{◌≡◌, ℕ, ◌<◌, ◌≤◌, true, false, List, length, take, slice_index_or, is_some}
+use Rattle.std.specs.Prelude.{◌≡◌, ℕ, ◌<◌, ◌≤◌, true, false, List, length, take, slice_index_or, is_some, None}
 use Rattle.replay_model.specs.Steps.{Step, Want, Ended, word_of, has_ended, reads}
 use Rattle.replay_model.specs.declared.End.TheVariants.{Halted}
-use Rattle.std.specs.Prelude.{None}
 
 -- what each thread wants next, by its number and its steps so far
 abbrev pub Threads : Type 0

@@ -1,4 +1,5 @@
 use super::*;
+use crate::image_fault::ImageKind::{Counts, Long, Magic, Opcode, Register, Short, Target, Unused};
 use std::test::*;
 
 // One thread that halts.
@@ -73,7 +74,6 @@ fn the_instructions_are_read(rt: HostRuntime) -> Result<(), Fail> {
 // Images with one byte changed, as many bytes of them as are given, and the fault.
 #[test]
 fn faults_are_told(rt: HostRuntime) {
-    use ImageKind::*;
     for (image, place, byte, len, kind, thread, at) in [
         (HALTS.as_slice(), 0, 0x4c, 20, Short, 0, 0),
         (HALTS.as_slice(), 0, 0x4c, 6, Short, 0, 0),
@@ -114,5 +114,5 @@ fn one_more_byte_is_told(rt: HostRuntime) {
     let mut longer = [0; 22];
     longer[..21].copy_from_slice(&HALTS);
     let fault = read_image(rt.alloc(), &longer).err();
-    assert_eq!(rt; fault, Some(ImageFault::whole(ImageKind::Long)));
+    assert_eq!(rt; fault, Some(ImageFault::whole(Long)));
 }

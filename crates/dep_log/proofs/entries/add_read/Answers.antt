@@ -52,6 +52,6 @@ returns-in_ok-push-clause-places c =
     let entry : Entry = record { word = c.args.word; source = c.args.source; first = c.args.step; last = c.args.step } in
     let len : c.len.result ≡ length c.args.entries.now.items = omega (arith, c.len.ensures) in
     let knows = λ (q : Sighting). c.in_ok-insert.ensures.updates.0 q ∙
-      ap (λ (w : Tag). cond (same_sighting (pair c.args.word w) q) (Some c.len.result) (find q)) c.writer.ensures.value ∙
-      ap (λ (n : ℕ). cond (same_sighting (pair c.args.word c.args.source) q) (Some n) (find q)) len in
+    ap (λ (w : Tag). cond (same_sighting (pair c.args.word w) q) (Some c.len.result) (find q)) c.writer.ensures.value ∙
+    ap (λ (n : ℕ). cond (same_sighting (pair c.args.word c.args.source) q) (Some n) (find q)) len in
     rw c.in_ok-push.ensures.items (FindsEntries-push find after c.args.entries.now.items entry c.requires new knows)

@@ -34,13 +34,13 @@ loop-access-preserved c =
     let items = λ (entries : Vec Entry Global). entries.items in
     elim c.match-access.branch [
       | in-Some+in_ok-add_read w ↦ record {
-          entries = ap items w.entries-is ∙ w.in_ok-add_read.ensures.entries ∙ ap found (sym w.in-Some.is) ∙ after;
-          places = rw (w.places-is, w.entries-is) w.in_ok-add_read.ensures.places;
-        }
+        entries = ap items w.entries-is ∙ w.in_ok-add_read.ensures.entries ∙ ap found (sym w.in-Some.is) ∙ after;
+        places = rw (w.places-is, w.entries-is) w.in_ok-add_read.ensures.places;
+      }
       | in_default w ↦ record {
-          entries = ap items w.entries-is ∙ ap found (sym (none access.saw w.in_default.not-Some)) ∙ after;
-          places = rw (w.places-is, w.entries-is) c.loop-access.invariant.places;
-        }
+        entries = ap items w.entries-is ∙ ap found (sym (none access.saw w.in_default.not-Some)) ∙ after;
+        places = rw (w.places-is, w.entries-is) c.loop-access.invariant.places;
+      }
     ]
 
 pub returns-clause-thread : goal.returns-clause-thread

@@ -1,4 +1,3 @@
-use Rattle.std.proofs.Common.{[]}
 use Rattle.history.proofs.Whole.{turns-whole, rounds-whole}
 use Rattle.history.proofs.laws.history_law.Goals as goal
 

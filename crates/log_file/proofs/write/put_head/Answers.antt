@@ -24,6 +24,6 @@ returns c =
     let digest = ap (λ (bytes : List ℕ). c.put_u16.new.out.items ++ bytes) c.digest.ensures in
     let limits = ap (λ (l : Limits). c.extend_from_slice-2.new.self.items ++ limits_bytes l) c.limits.ensures in
     OnOk-then c.put_limits.result
-      (λ e. appended c.args.out.now.items _ _ _ _ _ magic (length log.threads ∷ []) (to_be_bytes w16 (length log.lasts)) log.digest (limits_bytes log.limits)
-        c.in_ok-extend_from_slice.ensures.items (c.in_ok-push.ensures.items ∙ threads) (c.in_ok-put_u16.ensures.ok ∙ words) (c.in_ok-extend_from_slice-2.ensures.items ∙ digest) (e ∙ limits))
-      c.put_limits.ensures
+    (λ e. appended c.args.out.now.items _ _ _ _ _ magic (length log.threads ∷ []) (to_be_bytes w16 (length log.lasts)) log.digest (limits_bytes log.limits)
+    c.in_ok-extend_from_slice.ensures.items (c.in_ok-push.ensures.items ∙ threads) (c.in_ok-put_u16.ensures.ok ∙ words) (c.in_ok-extend_from_slice-2.ensures.items ∙ digest) (e ∙ limits))
+    c.put_limits.ensures

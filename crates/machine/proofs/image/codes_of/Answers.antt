@@ -1,10 +1,10 @@
-use Rattle.std.proofs.Common.{◌≡◌, ℕ, ◌+◌, ◌*◌, ◌++◌, List, ◌∷◌, [], length, drop, sum, get_or, refl, sym, ◌∙◌, ap, arith}
+use Rattle.std.proofs.Common.{◌≡◌, ◌+◌, ◌++◌, ◌∷◌, [], drop, sum, get_or, refl, ◌∙◌, ap, arith}
 use Rattle.std.specs.Global.{Vec}
 use Rattle.std.proofs.lemmas.Result.{err_from_is_err_and}
 use Rattle.std.proofs.lemmas.List.{map_push, drop_more}
 use Rattle.machine.specs.Programs.{Instr, code_lists}
 use Rattle.machine.specs.ImageReading.{codes_at}
-use Rattle.machine.proofs.ImageSteps.{sum-cons, with_front, codes_go_on, codes_stop, codes_end}
+use Rattle.machine.proofs.ImageSteps.{sum-cons, codes_go_on, codes_stop, codes_end}
 use Rattle.machine.proofs.image.codes_of.Goals as goal
 
 pub returns-in_err-code : goal.returns-in_err-code

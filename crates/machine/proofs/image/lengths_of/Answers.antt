@@ -1,7 +1,7 @@
-use Rattle.std.proofs.Common.{◌≡◌, ℕ, ◌*◌, ◌++◌, List, ◌∷◌, [], sym, ◌∙◌, ap, arith, rules}
-use Rattle.std.specs.Int.{w16}
+use Rattle.std.proofs.Common.{◌≡◌, ◌*◌, sym, ◌∙◌, arith, rules}
 use Rattle.machine.specs.ImageReading.{numbers_at}
-use Rattle.machine.proofs.ImageHead.{numbers_more}
+use Rattle.std.specs.Int.{w16}
+use Rattle.machine.proofs.ImageHead.{numbers_push}
 use Rattle.machine.proofs.image.lengths_of.Goals as goal
 
 pub loop-i-init : goal.loop-i-init
@@ -11,8 +11,7 @@ loop-i-init c = search rules
 pub loop-i-preserved : goal.loop-i-preserved
 loop-i-preserved c =
     let place : 2 * c.loop-i.i ≡ c.loop-i.i * 2 = omega arith in
-    let more = numbers_more w16 c.loop-i.i (2 * c.loop-i.i) c.args.bytes.now c.unwrap.result place (sym c.u16_at.ensures.value ∙ c.unwrap.ensures) in
     record {
-      read = c.in_ok-push.ensures.items ∙ ap (λ (xs : List ℕ). xs ++ c.unwrap.result ∷ []) c.loop-i.invariant.read ∙ sym more;
+      read = numbers_push w16 c.loop-i.i (2 * c.loop-i.i) c.args.bytes.now c.loop-i.lengths.items c.push.new.self.items c.unwrap.result place (sym c.u16_at.ensures.value ∙ c.unwrap.ensures) c.loop-i.invariant.read c.in_ok-push.ensures.items;
       count = search rules;
     }

@@ -1,11 +1,11 @@
-use Rattle.std.proofs.Common.{◌≡◌, ℕ, ◌+◌, ◌-◌, ◌*◌, ◌≤◌, true, false, List, length, take, drop, sum, Option, Some, None, Ok, Err, refl, sym, ◌∙◌, ap, arith}
+use Rattle.std.proofs.Common.{◌≡◌, ℕ, ◌+◌, ◌-◌, ◌*◌, List, length, take, drop, sum, sym, ◌∙◌, ap, arith}
 use Rattle.std.specs.List.{list_all}
-use Rattle.std.specs.Int.{w16, w32}
+use Rattle.std.specs.Int.{w32}
 use Rattle.std.proofs.lemmas.Result.{err_from_is_err_and}
 use Rattle.std.proofs.lemmas.List.{take_rest}
 use Rattle.machine.specs.Programs.{code_lists}
 use Rattle.machine.specs.ImageReading.{numbers_at, codes_at, is_short_length}
-use Rattle.machine.proofs.ImageHead.{HasLengths, HasCodes, counts_refused, head_is, has_lengths, total_none, total_some, image_short, image_counts, image_cut, image_fault, image_long, image_is}
+use Rattle.machine.proofs.ImageHead.{HasCodes, counts_refused, head_is, has_lengths, total_none, total_some, image_short, image_counts, image_cut, image_fault, image_long, image_is}
 use Rattle.machine.proofs.image.parts_of.Goals as goal
 
 pub returns-in_err-threads : goal.returns-in_err-threads

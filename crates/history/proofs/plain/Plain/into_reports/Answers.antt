@@ -1,4 +1,4 @@
-use Rattle.std.proofs.Common.{◌≡◌, ℕ, ◌∙◌, sym, ap, subst}
+use Rattle.std.proofs.Common.{◌∙◌, sym, ap, subst}
 use Rattle.machine.specs.Runs.{reports_of}
 use Rattle.std.proofs.lemmas.Result.{IfOk-weaker}
 use Rattle.history.specs.Played.{Played, world_of, IsOver}

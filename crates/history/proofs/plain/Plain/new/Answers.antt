@@ -1,6 +1,5 @@
-use Rattle.std.proofs.Common.{◌≡◌, ℕ, List, [], sym, ◌∙◌, ap, subst, length}
+use Rattle.std.proofs.Common.{ℕ, List, sym, ◌∙◌, ap, subst}
 use Rattle.replay_model.specs.Steps.{Cell, initial_cells}
-use Rattle.history.specs.declared.seat.Seat.{Seat}
 use Rattle.history.specs.Played.{unplayed}
 use Rattle.history.specs.Playing.{IsPlaying, AreFresh}
 use Rattle.history.proofs.Playing.{playing-new}

@@ -1,4 +1,4 @@
-use Rattle.std.proofs.Common.{◌≡◌, ℕ, false, true, sym, ◌∙◌, length, arith}
+use Rattle.std.proofs.Common.{sym, ◌∙◌, length, arith}
 use Rattle.machine.proofs.Turning.{on_err}
 use Rattle.history.proofs.Turns.{round-begins, round-more, round-begun}
 use Rattle.history.proofs.plain.Plain.round.Goals as goal

@@ -1,6 +1,3 @@
-use Rattle.std.proofs.Common.{◌≡◌, false, [], length}
-use Rattle.std.specs.List.{range_with_len}
-use Rattle.history.specs.Played.{after_turns, steps_in}
 use Rattle.history.proofs.Turns.{IsInRound}
 use Rattle.history.proofs.plain.Plain.round.Given as goal
 

@@ -1,9 +1,7 @@
-use Rattle.std.proofs.Common.{◌≡◌, ℕ, ◌<◌, ◌≤◌, ◌++◌, ◌∷◌, [], true, false, List, length, sym, ◌∙◌, ap, subst, arith, take, drop}
-use Rattle.std.specs.Prelude.{slice_index_or, slice_set, Some}
-use Rattle.replay_model.specs.declared.Want.{Want}
-use Rattle.replay_model.specs.Steps.{Cell, has_ended, word_of, wrote, found_in, put}
+use Rattle.std.proofs.Common.{◌≡◌, ℕ, ◌<◌, ◌++◌, ◌∷◌, [], false, List, length, sym, ◌∙◌, ap, subst, arith, take, drop}
+use Rattle.std.specs.Prelude.{slice_set}
+use Rattle.replay_model.specs.Steps.{Cell, has_ended, word_of, found_in, put}
 use Rattle.replay_model.proofs.Plays.{length-put}
-use Rattle.machine.specs.Cores.{State}
 use Rattle.history.specs.declared.seat.Seat.{Seat}
 use Rattle.history.specs.Played.{Played}
 use Rattle.history.specs.Playing.{IsPlaying}

@@ -1,8 +1,8 @@
-use Rattle.std.proofs.Common.{◌≡◌, ℕ, ◌≤◌, length, arith, sym, ◌∙◌, ap}
+use Rattle.std.proofs.Common.{◌≡◌, ℕ, length, arith, ◌∙◌, ap}
 use Rattle.replay_model.specs.Histories.{round_turns}
 use Rattle.machine.proofs.Turning.{on_err}
 use Rattle.history.specs.Played.{after_turns}
-use Rattle.history.proofs.Turns.{all_rounds, rounds-none, rounds-more, rounds-stop, rounds-begun, rounds-over, rounds-opening}
+use Rattle.history.proofs.Turns.{rounds-none, rounds-more, rounds-stop, rounds-begun, rounds-over, rounds-opening}
 use Rattle.history.proofs.plain.Plain.turns.Goals as goal
 
 pub loop-round-init : goal.loop-round-init
