@@ -1,2 +1,3 @@
 pub mod Logs
 pub mod Followed
+pub mod Records

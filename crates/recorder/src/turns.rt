@@ -66,6 +66,7 @@ fn record(
     requires whole { IsHistory program.now limits.now plain.taken }
     ensures { IfOk result (λ recorded. recorded ≡ recorded_of program.now limits.now plain.entry.taken) }
 {
+    // So no thread has more entries than a log can hold.
     prove!(limits.entries() <= 16_384);
     let all = all_entries(alloc, &plain, program.threads_count() as u8)?;
     let lasts = last_tags(alloc, plain.cells())?;
