@@ -1,0 +1,3 @@
+pub mod Logs
+pub mod Followed
+pub mod Records

@@ -1,0 +1,50 @@
+-- The parts of a record, as they come from a machine that has played a history.
+use Rattle.std.proofs.Common.{◌≡◌, ℕ, List, length, sym, ap, subst, ◌∙◌}
+use Rattle.std.specs.List.{range_with_len}
+use Rattle.replay_model.specs.declared.Entry.{Entry}
+use Rattle.replay_model.specs.Steps.{Tag}
+use Rattle.replay_model.specs.Logs.{ThreadLog, Log}
+use Rattle.replay_model.specs.RunLogs.{run_logs, last_tags}
+use Rattle.machine.specs.Programs.{ProgramValue, LimitsValue, IsProgram, AreLimits}
+use Rattle.machine.specs.Cores.{Report}
+use Rattle.machine.specs.Runs.{threads_of, instructions_of, reports_of, values_of}
+use Rattle.dep_log.specs.RunLogs.{IsRunLog}
+use Rattle.history.specs.Played.{Played, world_of}
+use Rattle.history.specs.Histories.{IsHistory}
+use Rattle.recorder.specs.Records.{RecordedValue, no_digest, recorded_of, record_of}
+use Rattle.recorder.specs.ThreadLogs.{entries_by, logs_by}
+use Rattle.recorder.proofs.Logs.{played-logged, history-fits}
+
+-- what comes of a machine: the entries of each thread, the reports, the threads' logs, the last tags and the last values
+pub record Comes (played : Played) (all : List (List Entry)) (reports : List Report) (threads : List ThreadLog) (lasts : List Tag) (finals : List ℕ) : Type 0 where
+  pub entries : all ≡ entries_by played (range_with_len 0 (length played.program.threads))
+  pub reported : reports ≡ reports_of played.program played.limits (world_of played)
+  pub logged : threads ≡ logs_by all reports
+  pub tags : lasts ≡ last_tags (world_of played).memory
+  pub values : finals ≡ values_of (world_of played)
+
+module _ (played : Played) (p : ProgramValue) (limits : LimitsValue) (program : played.program ≡ p) (bounds : played.limits ≡ limits) where
+  -- the machine played this program under these limits
+  same : played ≡ record { program = p; limits = limits; taken = played.taken }
+  same =
+      ap (λ (q : ProgramValue). record { program = q; limits = played.limits; taken = played.taken }) program ∙
+      ap (λ (l : LimitsValue). record { program = p; limits = l; taken = played.taken }) bounds
+
+  module _ (all : List (List Entry)) (reports : List Report) (threads : List ThreadLog) (lasts : List Tag) (finals : List ℕ) (c : Comes played all reports threads lasts finals) where
+    logged : threads ≡ run_logs (threads_of played.program played.limits) (instructions_of played.program played.limits) (world_of played).threads
+    logged = c.logged ∙ ap (λ (all : List (List Entry)). logs_by all reports) c.entries ∙ ap (logs_by (entries_by played (range_with_len 0 (length played.program.threads)))) c.reported ∙ played-logged played
+
+    -- these parts are the record of the history
+    pub recorded-parts : record { log = record { digest = no_digest; limits = limits; threads = threads; lasts = lasts }; reports = reports; finals = finals } ≡ recorded_of p limits played.taken
+    recorded-parts =
+        let made : LimitsValue → List ThreadLog → List Tag → List Report → List ℕ → RecordedValue = λ l ts tags rs vs. record { log = record { digest = no_digest; limits = l; threads = ts; lasts = tags }; reports = rs; finals = vs } in
+        ap (λ (l : LimitsValue). made l threads lasts reports finals) (sym bounds) ∙
+        ap (λ (ts : List ThreadLog). made played.limits ts lasts reports finals) logged ∙
+        ap (λ (tags : List Tag). made played.limits (run_logs (threads_of played.program played.limits) (instructions_of played.program played.limits) (world_of played).threads) tags reports finals) c.tags ∙
+        ap (λ (rs : List Report). made played.limits (run_logs (threads_of played.program played.limits) (instructions_of played.program played.limits) (world_of played).threads) (last_tags (world_of played).memory) rs finals) c.reported ∙
+        ap (made played.limits (run_logs (threads_of played.program played.limits) (instructions_of played.program played.limits) (world_of played).threads) (last_tags (world_of played).memory) (reports_of played.program played.limits (world_of played))) c.values ∙
+        ap (λ (q : Played). recorded_of q.program q.limits q.taken) same
+
+    -- and the log is one that a program can hold
+    pub recorded-fits : IsProgram p → AreLimits limits → IsHistory p limits played.taken → IsRunLog (record { digest = no_digest; limits = limits; threads = threads; lasts = lasts })
+    recorded-fits rules kept whole = subst IsRunLog (sym (ap (λ (r : RecordedValue). r.log) recorded-parts)) (history-fits p limits no_digest played.taken rules kept whole)
