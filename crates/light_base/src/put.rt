@@ -11,7 +11,7 @@ pub fn put_u16(out: &mut Vec<u8>, n: u16) -> Result<(), Memory>
     ensures read { OnOk result (big_endian_at w16 out.new.items (length out.old.items) ≡ Some n) }
     ensures err { OnErr result (out.new.items ≡ out.old.items) }
 {
-    out.extend_from_slice(&u16::to_be_bytes(n))?;
+    out.extend_from_slice(&n.to_be_bytes())?;
     Ok(())
 }
 
@@ -21,6 +21,6 @@ pub fn put_u32(out: &mut Vec<u8>, n: u32) -> Result<(), Memory>
     ensures read { OnOk result (big_endian_at w32 out.new.items (length out.old.items) ≡ Some n) }
     ensures err { OnErr result (out.new.items ≡ out.old.items) }
 {
-    out.extend_from_slice(&u32::to_be_bytes(n))?;
+    out.extend_from_slice(&n.to_be_bytes())?;
     Ok(())
 }
