@@ -1,11 +1,13 @@
 -- What is left to show where a command ends.
 use Rattle.std.proofs.Common.{◌≡◌, ℕ, ◌≤◌, List, length, Option, None, Some, Result, Ok, Err, OnOk, IfErr, IfSome, IsSomeAnd, refl, sym, subst, inr}
 use Rattle.light_base.specs.FileMap.{Files}
-use Rattle.light_base.specs.Files.{Has}
+use Rattle.std.specs.FinMap.{insert}
+use Rattle.light_base.specs.Files.{Has, SavedAs}
 use Rattle.light_base.specs.Taken.{Appended}
 use Rattle.machine.specs.Programs.{LimitsValue}
-use Rattle.light_top.specs.Words.{Request, Run}
+use Rattle.light_top.specs.Words.{Request, Run, Record}
 use Rattle.light_top.specs.Loading.{most_bytes}
+use Rattle.light_top.specs.Recording.{IsRecorded}
 use Rattle.light_top.specs.Playing.{IsPlayed}
 use Rattle.light_top.specs.Commands.{Means}
 use Rattle.light_top.specs.Printing.{TookFront, PrintFails}
@@ -41,3 +43,12 @@ run_stands None new image limits bytes text same has short played = tt
 run_stands (Some files) new image limits bytes text same has short played =
     subst (λ n. IsSomeAnd n (λ kept. Means (Run image limits) files text kept)) (sym same)
     (found (λ b. (length b ≤ most_bytes) × IsPlayed limits b text) _ bytes has (short, played), refl)
+
+-- what `record` saves and prints, over the files as they were
+pub record_stands : (old middle new : Option Files) (image log : List ℕ) (limits : LimitsValue) (bytes text saved : List ℕ) → middle ≡ old → Has old image bytes → length bytes ≤ most_bytes →
+    IsRecorded limits bytes text saved → SavedAs middle new log saved → IfSome old (λ files. IsSomeAnd new (λ kept. Means (Record image log limits) files text kept))
+record_stands None middle new image log limits bytes text saved same has short recorded put = tt
+record_stands (Some files) middle new image log limits bytes text saved same has short recorded put =
+    let after : new ≡ Some (insert files log saved) = subst (λ m. SavedAs m new log saved) same put in
+    subst (λ n. IsSomeAnd n (λ kept. Means (Record image log limits) files text kept)) (sym after)
+    (saved, found (λ b. (length b ≤ most_bytes) × IsRecorded limits b text saved) _ bytes has (short, recorded), refl)

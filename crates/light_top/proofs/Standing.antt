@@ -4,7 +4,7 @@ use Rattle.std.specs.FinMap.{get}
 use Rattle.light_base.specs.Causes.{Rose}
 use Rattle.light_base.specs.FileMap.{Files}
 use Rattle.machine.specs.declared.image_fault.ImageFault.{ImageFault}
-use Rattle.light_top.specs.Words.{Request, Run}
+use Rattle.light_top.specs.Words.{Request, Run, Record}
 use Rattle.light_top.specs.Loading.{most_bytes}
 use Rattle.light_top.specs.Reading.{IsSomeImage, IsRefused}
 use Rattle.light_top.specs.Commands.{HasFile, IsTooLong, Means, IsReady, MissesName, LoadsTooLong, ReadsImage}
@@ -34,31 +34,41 @@ pub record NotDone (r : Request) (files : Files) : Type 0 where
 
 misses_not_done : (r : Request) (files : Files) → MissesName r files → NotDone r files
 misses_not_done (Run image limits) files miss = record { not = λ text kept done. missing_file _ (get files image) miss done.0 }
+misses_not_done (Record image log limits) files miss = record { not = λ text kept done. missing_file _ (get files image) miss done.1 }
 
 long_not_done : (r : Request) (files : Files) → LoadsTooLong r files → NotDone r files
 long_not_done (Run image limits) files long = record { not = λ text kept done. long_file _ (get files image) long done.0 }
+long_not_done (Record image log limits) files long = record { not = λ text kept done. long_file _ (get files image) long done.1 }
 
 no_image_not_done : (r : Request) (files : Files) → ReadsImage r (λ bytes. IsSomeImage bytes → ⊥) files → NotDone r files
 no_image_not_done (Run image limits) files bad =
     record { not = λ text kept done. one_file _ _ (get files image) (λ bytes none played. none (played.program, played.image)) bad done.0 }
+no_image_not_done (Record image log limits) files bad =
+    record { not = λ text kept done. one_file _ _ (get files image) (λ bytes none recorded. none (recorded.program, recorded.image)) bad done.1 }
 
 misses_not_long : (r : Request) (files : Files) → MissesName r files → LoadsTooLong r files → ⊥
 misses_not_long (Run image limits) files miss long = missing_file _ (get files image) miss long
+misses_not_long (Record image log limits) files miss long = missing_file _ (get files image) miss long
 
 misses_not_read : (P : List ℕ → Type 0) (r : Request) (files : Files) → MissesName r files → ReadsImage r P files → ⊥
 misses_not_read P (Run image limits) files miss reads = missing_file _ (get files image) miss reads
+misses_not_read P (Record image log limits) files miss reads = missing_file _ (get files image) miss reads
 
 long_not_read : (P : List ℕ → Type 0) (r : Request) (files : Files) → LoadsTooLong r files → ReadsImage r P files → ⊥
 long_not_read P (Run image limits) files long reads = long_file _ (get files image) long reads
+long_not_read P (Record image log limits) files long reads = long_file _ (get files image) long reads
 
 ready_not_missed : (r : Request) (files : Files) → IsReady r files → MissesName r files → ⊥
 ready_not_missed (Run image limits) files ready miss = missing_file _ (get files image) miss ready
+ready_not_missed (Record image log limits) files ready miss = missing_file _ (get files image) miss ready
 
 ready_not_long : (r : Request) (files : Files) → IsReady r files → LoadsTooLong r files → ⊥
 ready_not_long (Run image limits) files ready long = long_file _ (get files image) long ready
+ready_not_long (Record image log limits) files ready long = long_file _ (get files image) long ready
 
 ready_not_refused : (r : Request) (files : Files) (fault : ImageFault) → IsReady r files → ReadsImage r (IsRefused fault) files → ⊥
 ready_not_refused (Run image limits) files fault ready reads = one_file _ _ (get files image) (λ bytes some refused. refused.no_image some) ready reads
+ready_not_refused (Record image log limits) files fault ready reads = one_file _ _ (get files image) (λ bytes some refused. refused.no_image some) ready reads
 
 -- ---- by the status
 

@@ -2,8 +2,10 @@ pub mod Words
 pub mod Said
 pub mod Statuses
 pub mod Loading
+pub mod Saving
 pub mod Printing
 pub mod Reading
 pub mod Playing
+pub mod Recording
 pub mod Commands
 pub mod Ends

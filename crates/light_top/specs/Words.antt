@@ -8,6 +8,7 @@ use Rattle.machine.specs.Programs.{LimitsValue}
 -- a command with its words read
 pub data Request : Type 0 where
   Run : (image : List ℕ) (limits : LimitsValue) → Request
+  Record : (image log : List ℕ) (limits : LimitsValue) → Request
 
 abbrev pub texts : {Y : Type 0} → List (String Y) → List (List ℕ)
 texts words = map string_bytes words
@@ -38,7 +39,13 @@ abbrev pub run_of : List (List ℕ) → Option Request
 run_of (image ∷ steps ∷ instr ∷ entries ∷ []) = if is_name image then option_map (Run image) (limits_of steps instr entries) else None
 run_of _ = None
 
+-- IMAGE LOG STEPS INSTR ENTRIES
+abbrev pub record_of : List (List ℕ) → Option Request
+record_of (image ∷ log ∷ steps ∷ instr ∷ entries ∷ []) =
+    if is_name image && is_name log then option_map (Record image log) (limits_of steps instr entries) else None
+record_of _ = None
+
 -- the command is named by the first word, and takes exactly the words shown
 abbrev pub request_of : List (List ℕ) → Option Request
 request_of [] = None
-request_of (verb ∷ rest) = if bytes_eq verb (codes "run") then run_of rest else None
+request_of (verb ∷ rest) = if bytes_eq verb (codes "run") then run_of rest else if bytes_eq verb (codes "record") then record_of rest else None

@@ -4,7 +4,9 @@
 mod load;
 mod print;
 mod read;
+mod recording;
 mod run;
+mod save;
 mod status;
 mod top;
 mod words;

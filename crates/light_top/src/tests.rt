@@ -5,6 +5,8 @@ use machine::{ImageFault, ImageKind};
 use std::alloc::{AllocError, Global};
 use std::test::Fail;
 
+mod recording;
+
 // One thread that halts at once.
 const SMALLEST: [u8; 21] = [
     0x4c, 0x49, 0x4d, 0x31, 0x01, 0x00, 0x01, 0x00, 0x01, 0x00, 0x00, 0x00, 0x00, 0x00, 0x00, 0x00,
@@ -78,6 +80,10 @@ fn words_that_are_no_command(rt: HostRuntime) -> Result<(), Fail> {
         "run i 1 1",
         "run i 1 1 1 1",
         "record i l 268435456 1 1",
+        "record i 1 1 1",
+        "record  l 1 1 1",
+        "record i  1 1 1",
+        "record i l 1 01 1",
         "list ",
         "Run i 1 1 1",
         "run  1 1 1",

@@ -7,6 +7,7 @@ ghost use Rattle.light_top.specs.Statuses.{status_of};
 ghost use Rattle.light_top.specs.Ends.{outside, Ends, Answers, CanBeDone, Continues};
 
 use crate::Status;
+use crate::recording::record;
 use crate::run::run;
 use crate::words::{Command, read_command};
 use light_base::{Sink, Store};
@@ -35,6 +36,9 @@ fn perform<S: Store, K: Sink>(
 {
     match command {
         Command::Run { image, limits } => ended(run(alloc, store, out, image, limits)),
+        Command::Record { image, log, limits } => {
+            ended(record(alloc, store, out, image, log, limits))
+        }
     }
 }
 

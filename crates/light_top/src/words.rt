@@ -1,6 +1,6 @@
 // The words of the command line.
 ghost use Rattle.std.specs.Prelude.{◌≡◌, ◌<◌, ◌^◌, Option, option_map, None, Some};
-ghost use Rattle.light_top.specs.Words.{is_plain, number_of, limits_of, texts, run_of, request_of};
+ghost use Rattle.light_top.specs.Words.{is_plain, number_of, limits_of, texts, run_of, record_of, request_of};
 ghost use Rattle.light_top.specs.Said.{said};
 
 use machine::Limits;
@@ -9,7 +9,16 @@ use machine::Limits;
 #[derive(Clone, Copy)]
 pub enum Command<'a> {
     /// Plays the program of an image by turns.
-    Run { image: &'a str, limits: Limits },
+    Run {
+        image: &'a str,
+        limits: Limits,
+    },
+    /// Plays it so, and saves the log.
+    Record {
+        image: &'a str,
+        log: &'a str,
+        limits: Limits,
+    },
 }
 
 // Whether a text may be that of a number: it has no sign, and a zero in front stands alone.
@@ -57,6 +66,21 @@ fn run<'a>(words: &'a [String]) -> Option<Command<'a>>
     }
 }
 
+fn record<'a>(words: &'a [String]) -> Option<Command<'a>>
+    ensures { option_map said result ≡ record_of (texts words.now) }
+{
+    match words {
+        [image, log, steps, instr, entries] if !image.is_empty() && !log.is_empty() => {
+            Some(Command::Record {
+                image: image.as_str(),
+                log: log.as_str(),
+                limits: limits(steps.as_str(), instr.as_str(), entries.as_str())?,
+            })
+        }
+        _ => None,
+    }
+}
+
 /// The command that the words are, if they are one.
 pub fn read_command<'a>(words: &'a [String]) -> Option<Command<'a>>
     ensures { option_map said result ≡ request_of (texts words.now) }
@@ -64,6 +88,7 @@ pub fn read_command<'a>(words: &'a [String]) -> Option<Command<'a>>
     match words {
         [verb, rest @ ..] => match verb.as_str() {
             "run" => run(rest),
+            "record" => record(rest),
             _ => None,
         },
         [] => None,
