@@ -1,5 +1,5 @@
 -- Programs, and the rules that they keep.
-use Rattle.std.specs.Prelude.{◌≡◌, ℕ, ◌≤◌, Bool, true, false, ◌&&◌, ◌||◌, ◌==◌, not, nat_lt, List, [], length, slice_index_or, All}
+use Rattle.std.specs.Prelude.{◌≡◌, ℕ, ◌≤◌, Bool, true, false, ◌&&◌, ◌||◌, ◌==◌, not, nat_lt, if◌then◌else◌, Option, Some, None, List, [], length, slice_index_or, All}
 pub use Rattle.machine.specs.declared.program.Instr.{Instr}
 pub use Rattle.machine.specs.declared.program.Op.{Op}
 use Rattle.machine.specs.declared.program.Op.TheVariants as op
@@ -19,6 +19,28 @@ pub record AreLimits (limits : LimitsValue) : Type 0 where
   pub steps : limits.steps ≤ 268435455
   pub instr : limits.instr ≤ 1073741824
   pub entries : limits.entries ≤ 16384
+
+-- the number of an operation in an image
+abbrev pub code_of_op : Op → ℕ
+code_of_op op.Halt = 0
+code_of_op op.Const = 1
+code_of_op op.Addi = 11
+code_of_op op.Jeq = 13
+code_of_op op.Out = 16
+code_of_op op.Load = 17
+code_of_op op.Store = 18
+
+-- the operation with this number, if there is one
+abbrev pub op_of : ℕ → Option Op
+op_of n =
+    if n == 0 then Some op.Halt
+    else if n == 1 then Some op.Const
+    else if n == 11 then Some op.Addi
+    else if n == 13 then Some op.Jeq
+    else if n == 16 then Some op.Out
+    else if n == 17 then Some op.Load
+    else if n == 18 then Some op.Store
+    else None
 
 -- the operations that use field a
 abbrev pub uses_a : Op → Bool

@@ -1,6 +1,10 @@
 // Programs: what a thread can be told to do, and the rules that a program keeps.
-ghost use Rattle.std.specs.Prelude.{◌≡◌, ◌<◌, ◌≤◌, length, map, slice_index_or, []};
+ghost use Rattle.std.specs.Prelude.{◌≡◌, ◌↔◌, ◌<◌, ◌≤◌, Some, true, length, map, SomeIff, IsOk};
+ghost use Rattle.std.specs.List.{list_all};
+ghost use Rattle.machine.specs.Programs.{AreLimits, IsProgram, code_of, code_of_op, op_of, uses_a, uses_b, uses_c, uses_imm, jumps, has_registers, has_idle_zero, has_target};
+ghost use Rattle.machine.specs.Faults.{instr_fault, code_fault, codes_fault, program_fault, checked, is_count, is_short_code};
 
+use crate::image_fault::{ImageFault, ImageKind};
 use std::marker::Model;
 
 /// What an instruction does. R(x) is the value of register x, sums are modulo 2^32.
@@ -22,6 +26,84 @@ pub enum Op {
     Store,
 }
 
+impl Op {
+    /// The operation with this code; None where no operation has it.
+    pub fn from_code(code: u8) -> Option<Op>
+        ensures value { result ≡ op_of code }
+        ensures exact { (op : Op) → (result ≡ Some op) ↔ (code ≡ code_of_op op) }
+    {
+        match code {
+            0 => Some(Op::Halt),
+            1 => Some(Op::Const),
+            11 => Some(Op::Addi),
+            13 => Some(Op::Jeq),
+            16 => Some(Op::Out),
+            17 => Some(Op::Load),
+            18 => Some(Op::Store),
+            _ => None,
+        }
+    }
+
+    /// The number of the operation in an image.
+    pub fn code(&self) -> u8
+        ensures { result ≡ code_of_op self.now }
+    {
+        match self {
+            Op::Halt => 0,
+            Op::Const => 1,
+            Op::Addi => 11,
+            Op::Jeq => 13,
+            Op::Out => 16,
+            Op::Load => 17,
+            Op::Store => 18,
+        }
+    }
+
+    fn uses_a(self) -> bool
+        ensures { result ≡ uses_a self }
+    {
+        match self {
+            Op::Const | Op::Addi | Op::Jeq | Op::Out | Op::Load | Op::Store => true,
+            Op::Halt => false,
+        }
+    }
+
+    fn uses_b(self) -> bool
+        ensures { result ≡ uses_b self }
+    {
+        match self {
+            Op::Addi | Op::Jeq | Op::Load | Op::Store => true,
+            Op::Halt | Op::Const | Op::Out => false,
+        }
+    }
+
+    fn uses_c(self) -> bool
+        ensures { result ≡ uses_c self }
+    {
+        match self {
+            Op::Halt | Op::Const | Op::Addi | Op::Jeq | Op::Out | Op::Load | Op::Store => false,
+        }
+    }
+
+    fn uses_imm(self) -> bool
+        ensures { result ≡ uses_imm self }
+    {
+        match self {
+            Op::Const | Op::Addi | Op::Jeq | Op::Load | Op::Store => true,
+            Op::Halt | Op::Out => false,
+        }
+    }
+
+    fn jumps(self) -> bool
+        ensures { result ≡ jumps self }
+    {
+        match self {
+            Op::Jeq => true,
+            Op::Halt | Op::Const | Op::Addi | Op::Out | Op::Load | Op::Store => false,
+        }
+    }
+}
+
 /// One instruction: what it does, and its operands. Operands that the operation does not use are 0.
 #[derive(Clone, Copy, Debug, PartialEq, Eq)]
 pub struct Instr {
@@ -30,6 +112,46 @@ pub struct Instr {
     pub b: u8,
     pub c: u8,
     pub imm: u32,
+}
+
+impl Instr {
+    fn has_registers(&self) -> bool
+        ensures { result ≡ has_registers self.now }
+    {
+        (!self.op.uses_a() || self.a < 16)
+            && (!self.op.uses_b() || self.b < 16)
+            && (!self.op.uses_c() || self.c < 16)
+    }
+
+    fn has_idle_zero(&self) -> bool
+        ensures { result ≡ has_idle_zero self.now }
+    {
+        (self.op.uses_a() || self.a == 0)
+            && (self.op.uses_b() || self.b == 0)
+            && (self.op.uses_c() || self.c == 0)
+            && (self.op.uses_imm() || self.imm == 0)
+    }
+
+    fn has_target(&self, len: usize) -> bool
+        ensures { result ≡ has_target len self.now }
+    {
+        !self.op.jumps() || self.imm as usize <= len
+    }
+
+    // The first rule that the instruction breaks in a code of this length.
+    pub(crate) fn fault(&self, len: usize) -> Option<ImageKind>
+        ensures { result ≡ instr_fault len self.now }
+    {
+        if !self.has_registers() {
+            Some(ImageKind::Register)
+        } else if !self.has_idle_zero() {
+            Some(ImageKind::Unused)
+        } else if !self.has_target(len) {
+            Some(ImageKind::Target)
+        } else {
+            None
+        }
+    }
 }
 
 /// Shared words with their initial values, and the code of each thread.
@@ -50,6 +172,116 @@ impl Model for Program {
     ghost invariant = { λ p. IsProgram (record { words = p.words.items; threads = map (λ code. code.items) p.threads.items }) };
 }
 
+impl Program {
+    /// The program of these words and codes. An `Err` is the first fault: `Counts` where there are not 1 to 15 threads
+    /// and 1 to 4,096 words, or a code has more than 4,096 instructions; then the first instruction that breaks a
+    /// rule, with its thread and place, and within it `Register`, `Unused`, `Target` in this order.
+    pub fn of(words: Vec<u32>, threads: Vec<Vec<Instr>>) -> Result<Program, ImageFault>
+        ensures value { result ≡ checked (record { words = words.items; threads = map (λ code. code.items) threads.items }) }
+        ensures exact { IsOk result ↔ IsProgram (record { words = words.items; threads = map (λ code. code.items) threads.items }) }
+    {
+        match fault_of(&words, &threads) {
+            Some(fault) => Err(fault),
+            None => Ok(Program { words, threads }),
+        }
+    }
+
+    // The program of words and codes that keep the rules.
+    pub(crate) fn sound(words: Vec<u32>, threads: Vec<Vec<Instr>>) -> Program
+        requires { IsProgram (record { words = words.items; threads = map (λ code. code.items) threads.items }) }
+        ensures { result ≡ record { words = words.items; threads = map (λ code. code.items) threads.items } }
+    {
+        Program { words, threads }
+    }
+
+    /// The initial values of the words.
+    pub fn words(&self) -> &[u32]
+        ensures value { result.now ≡ self.now.words }
+        ensures rules { IsProgram self.now }
+    {
+        &self.words
+    }
+
+    /// The code of a thread.
+    pub fn threads(&self, thread: usize) -> &[Instr]
+        requires { thread < length self.now.threads }
+        ensures value { result.now ≡ code_of self.now thread }
+        ensures rules { IsProgram self.now }
+    {
+        &self.threads[thread]
+    }
+
+    /// How many threads there are.
+    pub fn threads_count(&self) -> usize
+        ensures value { result ≡ length self.now.threads }
+        ensures rules { IsProgram self.now }
+    {
+        self.threads.len()
+    }
+
+    /// The initial values of the words, and the code of each thread.
+    pub fn into_parts(self) -> (Vec<u32>, Vec<Vec<Instr>>)
+        ensures words { result.0.items ≡ self.words }
+        ensures threads { map (λ code. code.items) result.1.items ≡ self.threads }
+        ensures rules { IsProgram self }
+    {
+        (self.words, self.threads)
+    }
+}
+
+// The first fault of an instruction of a thread's code.
+fn code_fault(thread: u8, code: &[Instr]) -> Option<ImageFault>
+    requires { length code.now ≤ 4096 }
+    ensures { result ≡ code_fault (length code.now) thread 0 code.now }
+{
+    for (at, instr) in code.iter().enumerate() {
+        if let Some(kind) = instr.fault(code.len()) {
+            return Some(ImageFault {
+                kind,
+                thread,
+                at: at as u16,
+            });
+        }
+    }
+    None
+}
+
+// The first fault of an instruction.
+fn codes_fault(threads: &[Vec<Instr>]) -> Option<ImageFault>
+    requires count { length threads.now ≤ 15 }
+    requires short { list_all is_short_code (map (λ code. code.items) threads.now) ≡ true }
+    ensures { result ≡ codes_fault 0 (map (λ code. code.items) threads.now) }
+{
+    for (thread, code) in threads.iter().enumerate() {
+        if let Some(fault) = code_fault(thread as u8, code) {
+            return Some(fault);
+        }
+    }
+    None
+}
+
+fn are_short(threads: &[Vec<Instr>]) -> bool
+    ensures { result ≡ list_all is_short_code (map (λ code. code.items) threads.now) }
+{
+    threads.iter().all(|code| code.len() <= 4096)
+}
+
+fn is_count(most: usize, n: usize) -> bool
+    ensures { result ≡ is_count most n }
+{
+    0 < n && n <= most
+}
+
+#[tactic(auto, unfolding(crate::specs::Faults::program_fault))]
+fn fault_of(words: &[u32], threads: &[Vec<Instr>]) -> Option<ImageFault>
+    ensures { result ≡ program_fault (record { words = words.now; threads = map (λ code. code.items) threads.now }) }
+{
+    if !(is_count(15, threads.len()) && is_count(4096, words.len())) || !are_short(threads) {
+        return Some(ImageFault::whole(ImageKind::Counts));
+    }
+    codes_fault(threads)
+}
+
 /// How much a thread may do at most.
 #[derive(Clone, Copy, Debug, PartialEq, Eq)]
 pub struct Limits {
@@ -68,4 +300,45 @@ impl Model for Limits {
     ghost invariant = { λ l. AreLimits (record { steps = l.steps; instr = l.instr; entries = l.entries }) };
 
     ghost inverse = { λ l. record { steps = l.steps; instr = l.instr; entries = l.entries } };
+}
+
+impl Limits {
+    /// Limits of a thread: at most so many memory steps, instructions and log entries. None exactly where steps is over
+    /// 268,435,455, instr over 1,073,741,824 or entries over 16,384.
+    pub fn new(steps: u32, instr: u32, entries: u32) -> Option<Limits>
+        ensures { SomeIff result (AreLimits (record { steps = steps; instr = instr; entries = entries })) (record { steps = steps; instr = instr; entries = entries }) }
+    {
+        if steps > 268_435_455 || instr > 1_073_741_824 || entries > 16_384 {
+            return None;
+        }
+        Some(Limits {
+            steps,
+            instr,
+            entries,
+        })
+    }
+
+    /// The most memory steps.
+    pub fn steps(&self) -> u32
+        ensures value { result ≡ self.now.steps }
+        ensures rules { AreLimits self.now }
+    {
+        self.steps
+    }
+
+    /// The most instructions.
+    pub fn instr(&self) -> u32
+        ensures value { result ≡ self.now.instr }
+        ensures rules { AreLimits self.now }
+    {
+        self.instr
+    }
+
+    /// The most log entries.
+    pub fn entries(&self) -> u32
+        ensures value { result ≡ self.now.entries }
+        ensures rules { AreLimits self.now }
+    {
+        self.entries
+    }
 }
