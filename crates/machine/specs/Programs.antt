@@ -1,5 +1,6 @@
 -- Programs, and the rules that they keep.
-use Rattle.std.specs.Prelude.{◌≡◌, ℕ, ◌≤◌, Bool, true, false, ◌&&◌, ◌||◌, ◌==◌, not, nat_lt, if◌then◌else◌, Option, Some, None, List, [], length, slice_index_or, All}
+use Rattle.std.specs.Prelude.{◌≡◌, ℕ, ◌≤◌, Bool, true, false, ◌&&◌, ◌||◌, ◌==◌, not, nat_lt, if◌then◌else◌, Option, Some, None, List, [], length, slice_index_or, map, All}
+use Rattle.std.specs.Global.{Vec}
 pub use Rattle.machine.specs.declared.program.Instr.{Instr}
 pub use Rattle.machine.specs.declared.program.Op.{Op}
 use Rattle.machine.specs.declared.program.Op.TheVariants as op
@@ -124,6 +125,10 @@ pub record IsProgram (p : ProgramValue) : Type 0 where
   pub some_threads : 1 ≤ length p.threads
   pub most_threads : length p.threads ≤ 15
   pub each : All IsCode p.threads
+
+-- codes, each as the list of its instructions
+abbrev pub code_lists : List (Vec Instr) → List (List Instr)
+code_lists codes = map (λ code. code.items) codes
 
 -- the code of a thread; one past the last has none
 abbrev pub code_of : ProgramValue → ℕ → List Instr

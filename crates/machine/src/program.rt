@@ -1,7 +1,7 @@
 // Programs: what a thread can be told to do, and the rules that a program keeps.
 ghost use Rattle.std.specs.Prelude.{◌≡◌, ◌↔◌, ◌<◌, ◌≤◌, Some, true, length, map, SomeIff, IsOk};
 ghost use Rattle.std.specs.List.{list_all};
-ghost use Rattle.machine.specs.Programs.{AreLimits, IsProgram, code_of, code_of_op, op_of, uses_a, uses_b, uses_c, uses_imm, jumps, has_registers, has_idle_zero, has_target};
+ghost use Rattle.machine.specs.Programs.{AreLimits, IsProgram, code_lists, code_of, code_of_op, op_of, uses_a, uses_b, uses_c, uses_imm, jumps, has_registers, has_idle_zero, has_target};
 ghost use Rattle.machine.specs.Faults.{instr_fault, code_fault, codes_fault, program_fault, checked, is_count, is_short_code};
 
 use crate::image_fault::{ImageFault, ImageKind};
@@ -177,8 +177,8 @@ impl Program {
     /// and 1 to 4,096 words, or a code has more than 4,096 instructions; then the first instruction that breaks a
     /// rule, with its thread and place, and within it `Register`, `Unused`, `Target` in this order.
     pub fn of(words: Vec<u32>, threads: Vec<Vec<Instr>>) -> Result<Program, ImageFault>
-        ensures value { result ≡ checked (record { words = words.items; threads = map (λ code. code.items) threads.items }) }
-        ensures exact { IsOk result ↔ IsProgram (record { words = words.items; threads = map (λ code. code.items) threads.items }) }
+        ensures value { result ≡ checked (record { words = words.items; threads = code_lists threads.items }) }
+        ensures exact { IsOk result ↔ IsProgram (record { words = words.items; threads = code_lists threads.items }) }
     {
         match fault_of(&words, &threads) {
             Some(fault) => Err(fault),
@@ -188,8 +188,8 @@ impl Program {
 
     // The program of words and codes that keep the rules.
     pub(crate) fn sound(words: Vec<u32>, threads: Vec<Vec<Instr>>) -> Program
-        requires { IsProgram (record { words = words.items; threads = map (λ code. code.items) threads.items }) }
-        ensures { result ≡ record { words = words.items; threads = map (λ code. code.items) threads.items } }
+        requires { IsProgram (record { words = words.items; threads = code_lists threads.items }) }
+        ensures { result ≡ record { words = words.items; threads = code_lists threads.items } }
     {
         Program { words, threads }
     }
@@ -222,7 +222,7 @@ impl Program {
     /// The initial values of the words, and the code of each thread.
     pub fn into_parts(self) -> (Vec<u32>, Vec<Vec<Instr>>)
         ensures words { result.0.items ≡ self.words }
-        ensures threads { map (λ code. code.items) result.1.items ≡ self.threads }
+        ensures threads { code_lists result.1.items ≡ self.threads }
         ensures rules { IsProgram self }
     {
         (self.words, self.threads)
@@ -249,8 +249,8 @@ fn code_fault(thread: u8, code: &[Instr]) -> Option<ImageFault>
 // The first fault of an instruction.
 fn codes_fault(threads: &[Vec<Instr>]) -> Option<ImageFault>
     requires count { length threads.now ≤ 15 }
-    requires short { list_all is_short_code (map (λ code. code.items) threads.now) ≡ true }
-    ensures { result ≡ codes_fault 0 (map (λ code. code.items) threads.now) }
+    requires short { list_all is_short_code (code_lists threads.now) ≡ true }
+    ensures { result ≡ codes_fault 0 (code_lists threads.now) }
 {
     for (thread, code) in threads.iter().enumerate() {
         if let Some(fault) = code_fault(thread as u8, code) {
@@ -261,9 +261,14 @@ fn codes_fault(threads: &[Vec<Instr>]) -> Option<ImageFault>
 }
 
 fn are_short(threads: &[Vec<Instr>]) -> bool
-    ensures { result ≡ list_all is_short_code (map (λ code. code.items) threads.now) }
+    ensures { result ≡ list_all is_short_code (code_lists threads.now) }
 {
-    threads.iter().all(|code| code.len() <= 4096)
+    for code in threads {
+        if code.len() > 4096 {
+            return false;
+        }
+    }
+    true
 }
 
 fn is_count(most: usize, n: usize) -> bool
@@ -274,7 +279,7 @@ fn is_count(most: usize, n: usize) -> bool
 
 #[tactic(auto, unfolding(crate::specs::Faults::program_fault))]
 fn fault_of(words: &[u32], threads: &[Vec<Instr>]) -> Option<ImageFault>
-    ensures { result ≡ program_fault (record { words = words.now; threads = map (λ code. code.items) threads.now }) }
+    ensures { result ≡ program_fault (record { words = words.now; threads = code_lists threads.now }) }
 {
     if !(is_count(15, threads.len()) && is_count(4096, words.len())) || !are_short(threads) {
         return Some(ImageFault::whole(ImageKind::Counts));
