@@ -1,0 +1,10 @@
+pub mod Lines
+pub mod Mnemonics
+pub mod Words
+pub mod Numerals
+pub mod Parts
+pub mod Labels
+pub mod Operands
+pub mod Progress
+pub mod Assembled
+pub mod Canonical

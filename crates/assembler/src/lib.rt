@@ -1,0 +1,12 @@
+//! Programs written as text: the text's grammar, and the program that it says.
+#![tactic(auto)]
+
+mod asm_fault;
+mod head;
+mod lines;
+mod mnemonic;
+mod numerals;
+mod scope;
+mod words;
+
+pub use asm_fault::{AsmFault, AsmKind};
