@@ -4,7 +4,10 @@ pub mod Words
 pub mod Numerals
 pub mod Parts
 pub mod Labels
+pub mod Seen
 pub mod Operands
+pub mod SeenOperands
 pub mod Progress
+pub mod SeenProgress
 pub mod Assembled
 pub mod Canonical

@@ -1,5 +1,5 @@
 -- Numbers in a text.
-use Rattle.std.specs.Prelude.{ℕ, Bool, true, false, ◌&&◌, ◌||◌, ◌==◌, nat_lt, not, List, [], ◌∷◌, if◌then◌else◌, Option, None, Some}
+use Rattle.std.specs.Prelude.{ℕ, Bool, true, false, ◌&&◌, ◌||◌, ◌==◌, List, [], ◌∷◌, if◌then◌else◌, Option, None, Some}
 use Rattle.std.specs.Char.{is_digit}
 use Rattle.std.specs.Str.Parse.{digits_value}
 use Rattle.std.specs.List.{list_all}
@@ -21,6 +21,16 @@ abbrev pub number_of : List ℕ → Option ℕ
 number_of (z ∷ x ∷ digits) = if (z == 48) && is_hex_letter x then number_in 16 digits else number_in 10 (z ∷ x ∷ digits)
 number_of word = number_in 10 word
 
--- at most 4,294,967,295
-abbrev pub is_word_value : ℕ → Bool
-is_word_value n = not (nat_lt 4294967295 n)
+-- the number that the only word writes
+abbrev pub one_number : List (List ℕ) → Option ℕ
+one_number (word ∷ []) = number_of word
+one_number _ = None
+
+abbrev pub both : Option ℕ → Option ℕ → Option (ℕ × ℕ)
+both (Some m) (Some n) = Some (m, n)
+both _ _ = None
+
+-- the numbers that the only two words write
+abbrev pub two_numbers : List (List ℕ) → Option (ℕ × ℕ)
+two_numbers (first ∷ second ∷ []) = both (number_of first) (number_of second)
+two_numbers _ = None

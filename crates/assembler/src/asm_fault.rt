@@ -1,6 +1,9 @@
 // Why a text says no program.
 ghost use Rattle.std.specs.Prelude.{◌≡◌};
+ghost use Rattle.assembler.specs.declared.asm_fault.AsmKind.TheVariants.{Memory};
 ghost use Rattle.assembler.specs.Assembled.{number_of_kind};
+
+use std::alloc::{AllocError, AllocFailed};
 
 /// What is wrong with a line. The kinds have the numbers 1 to 10, in this order.
 #[derive(Clone, Copy, Debug, PartialEq, Eq)]
@@ -44,6 +47,22 @@ impl AsmKind {
             AsmKind::NoThread => 9,
             AsmKind::Memory => 10,
         }
+    }
+}
+
+impl From<AllocError> for AsmKind {
+    ghost from_gives = { λ _ k. k ≡ Memory };
+
+    fn from(_e: AllocError) -> AsmKind {
+        AsmKind::Memory
+    }
+}
+
+impl<T: Drop> From<AllocFailed<T>> for AsmKind {
+    ghost from_gives = { λ _ k. k ≡ Memory };
+
+    fn from(_e: AllocFailed<T>) -> AsmKind {
+        AsmKind::Memory
     }
 }
 

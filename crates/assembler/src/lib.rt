@@ -2,10 +2,14 @@
 #![tactic(auto)]
 
 mod asm_fault;
+mod assembly;
 mod head;
 mod lines;
 mod mnemonic;
 mod numerals;
+mod operands;
+mod parts;
+mod registers;
 mod scope;
 mod words;
 

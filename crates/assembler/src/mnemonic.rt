@@ -29,3 +29,40 @@ pub fn mnemonic(op: Op) -> &'static [u8]
         Op::Store => b"store",
     }
 }
+
+/// Whether the operation has the operand a.
+pub fn uses_a(op: Op) -> bool
+    ensures { result ≡ uses_a op }
+{
+    !matches!(op, Op::Halt)
+}
+
+/// Whether the operation has the operand b.
+pub fn uses_b(op: Op) -> bool
+    ensures { result ≡ uses_b op }
+{
+    matches!(op, Op::Addi | Op::Jeq | Op::Load | Op::Store)
+}
+
+/// Whether the operation has the operand c.
+pub fn uses_c(op: Op) -> bool
+    ensures { result ≡ uses_c op }
+{
+    match op {
+        Op::Halt | Op::Const | Op::Addi | Op::Jeq | Op::Out | Op::Load | Op::Store => false,
+    }
+}
+
+/// Whether the operation has the operand imm.
+pub fn uses_imm(op: Op) -> bool
+    ensures { result ≡ uses_imm op }
+{
+    !matches!(op, Op::Halt | Op::Out)
+}
+
+/// Whether imm is a place in the code.
+pub fn jumps(op: Op) -> bool
+    ensures { result ≡ jumps op }
+{
+    matches!(op, Op::Jeq)
+}

@@ -3,7 +3,10 @@ ghost use Rattle.std.specs.Prelude.{◌≡◌, ◌≤◌, min, option_map};
 ghost use Rattle.std.specs.Char.{digit_value, is_digit};
 ghost use Rattle.std.specs.List.{list_all};
 ghost use Rattle.std.specs.Str.Parse.{digits_value};
-ghost use Rattle.assembler.specs.Numerals.{are_digits, number_in, number_of};
+ghost use Rattle.assembler.specs.Lines.{tokens_of};
+ghost use Rattle.assembler.specs.Numerals.{are_digits, number_in, number_of, one_number, both, two_numbers};
+
+use crate::lines::next_token;
 
 /// What stands for a number that is too large for a word.
 pub const TOO_LARGE: u64 = 4_294_967_296;
@@ -70,5 +73,45 @@ pub fn number(word: &[u8]) -> Option<u64>
     match word {
         [b'0', b'x' | b'X', digits @ ..] => number_in(16, digits),
         _ => number_in(10, word),
+    }
+}
+
+/// The number that the only token writes, or TOO_LARGE where it is greater; None where there is no token, another one, or
+/// it is no number.
+pub fn one_number(tokens: &[u8]) -> Option<u64>
+    ensures { result ≡ option_map (min TOO_LARGE) (one_number (tokens_of tokens.now)) }
+{
+    match next_token(tokens) {
+        None => None,
+        Some((word, rest)) => match next_token(rest) {
+            None => number(word),
+            Some(_) => None,
+        },
+    }
+}
+
+// Both numbers, where both are there.
+fn both(first: Option<u64>, second: Option<u64>) -> Option<(u64, u64)>
+    ensures { result ≡ both first second }
+{
+    match (first, second) {
+        (Some(first), Some(second)) => Some((first, second)),
+        _ => None,
+    }
+}
+
+/// The numbers that the only two tokens write, each as in `one_number`.
+pub fn two_numbers(tokens: &[u8]) -> Option<(u64, u64)>
+    ensures { result ≡ option_map (λ n. (min TOO_LARGE n.0, min TOO_LARGE n.1)) (two_numbers (tokens_of tokens.now)) }
+{
+    match next_token(tokens) {
+        None => None,
+        Some((first, rest)) => match next_token(rest) {
+            None => None,
+            Some((second, rest)) => match next_token(rest) {
+                None => both(number(first), number(second)),
+                Some(_) => None,
+            },
+        },
     }
 }
