@@ -17,10 +17,14 @@ words_line n = codes ".words" ++ spaced (decimal n) ++ line_end
 abbrev pub init_line : ℕ → ℕ → List ℕ
 init_line word value = codes ".init" ++ spaced (decimal word) ++ spaced (decimal value) ++ line_end
 
--- a line for each of the words from this one on whose value is not 0
+-- a line for a word whose value is not 0
+abbrev pub init_text : ℕ → ℕ → List ℕ
+init_text word value = if value == 0 then [] else init_line word value
+
+-- the lines of the words from this one on
 unfoldable pub init_lines : ℕ → List ℕ → List ℕ
 init_lines word [] = []
-init_lines word (v ∷ vs) = (if v == 0 then [] else init_line word v) ++ init_lines (word + 1) vs
+init_lines word (v ∷ vs) = init_text word v ++ init_lines (word + 1) vs
 
 -- a register where it is used
 abbrev pub register_text : Bool → ℕ → List ℕ

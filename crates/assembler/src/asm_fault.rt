@@ -1,7 +1,6 @@
 // Why a text says no program.
 ghost use Rattle.std.specs.Prelude.{◌≡◌};
 ghost use Rattle.assembler.specs.declared.asm_fault.AsmKind.TheVariants.{Memory};
-ghost use Rattle.assembler.specs.Assembled.{number_of_kind};
 
 use std::alloc::{AllocError, AllocFailed};
 
@@ -31,6 +30,8 @@ pub enum AsmKind {
 }
 
 impl AsmKind {
+    ghost use Rattle.assembler.specs.Assembled.{number_of_kind};
+
     /// The number of the kind, from 1 to 10.
     pub fn code(&self) -> u8
         ensures { result ≡ number_of_kind self.now }
@@ -71,4 +72,29 @@ impl<T: Drop> From<AllocFailed<T>> for AsmKind {
 pub struct AsmFault {
     pub line: u32,
     pub kind: AsmKind,
+}
+
+impl AsmFault {
+    ghost use Rattle.assembler.specs.Assembled.{fault_at};
+
+    /// What a line has wrong; refused memory is no line's fault.
+    pub(crate) fn at(line: u32, kind: AsmKind) -> AsmFault
+        ensures { result ≡ fault_at line kind }
+    {
+        match kind {
+            AsmKind::Memory => AsmFault { line: 0, kind },
+            _ => AsmFault { line, kind },
+        }
+    }
+}
+
+impl From<AllocError> for AsmFault {
+    ghost use Rattle.std.specs.Prelude.{◌≡◌};
+    ghost use Rattle.assembler.specs.Assembled.{out_of_memory};
+
+    ghost from_gives = { λ _ fault. fault ≡ out_of_memory };
+
+    fn from(_e: AllocError) -> AsmFault {
+        AsmFault::at(0, AsmKind::Memory)
+    }
 }

@@ -88,8 +88,8 @@ impl<'a> Assembly<'a> {
         }
     }
 
-    // The current thread is over.
-    fn end_thread(&mut self, alloc: Global) -> Result<(), AllocError>
+    /// The current thread is over.
+    pub fn end_thread(&mut self, alloc: Global) -> Result<(), AllocError>
         ensures ok { OnOk result (progress_of self.new ≡ ended (progress_of self.old)) }
     {
         let code = mem::replace(&mut self.code, Vec::new(alloc));

@@ -17,7 +17,7 @@ pub enum Head {
 }
 
 impl Head {
-    ghost use Rattle.assembler.specs.Words.{is_directive, is_operation, instructions_of};
+    ghost use Rattle.assembler.specs.Words.{is_directive, is_operation, begins_thread, instructions_of};
 
     pub fn is_directive(self) -> bool
         ensures { result ≡ is_directive self }
@@ -29,6 +29,12 @@ impl Head {
         ensures { result ≡ is_operation self }
     {
         matches!(self, Head::Operation(_))
+    }
+
+    pub fn begins_thread(self) -> bool
+        ensures { result ≡ begins_thread self }
+    {
+        matches!(self, Head::Thread)
     }
 
     /// How many instructions the item counts as, also where its first word is unknown.

@@ -2,15 +2,20 @@
 #![tactic(auto)]
 
 mod asm_fault;
+
 mod assembly;
 mod head;
 mod lines;
+mod listing;
 mod mnemonic;
 mod numerals;
 mod operands;
 mod parts;
 mod registers;
 mod scope;
+mod text;
 mod words;
 
 pub use asm_fault::{AsmFault, AsmKind};
+pub use text::assemble;
+pub use listing::list;

@@ -8,8 +8,8 @@ ghost use Rattle.assembler.specs.Numerals.{are_digits, number_in, number_of, one
 
 use crate::lines::next_token;
 
-/// What stands for a number that is too large for a word.
-pub const TOO_LARGE: u64 = 4_294_967_296;
+/// What stands for this number, and for each greater one.
+pub const TOO_LARGE: u64 = 18_446_744_073_709_551_615;
 
 // The value of a digit in a base of up to 36; 36 where the byte is no digit.
 fn digit_value(b: u8) -> u8
@@ -47,7 +47,7 @@ fn capped_value(base: u8, digits: &[u8]) -> u64
 {
     let mut value: u64 = 0;
     for b in digits {
-        value = (value * u64::from(base) + u64::from(digit_value(*b))).min(TOO_LARGE);
+        value = value.saturating_mul(u64::from(base)).saturating_add(u64::from(digit_value(*b)));
     }
     value
 }

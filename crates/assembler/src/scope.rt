@@ -2,7 +2,6 @@
 ghost use Rattle.std.specs.Prelude.{◌≡◌, ◌+◌, ◌<◌, ◌≤◌, ◌^◌, length, None, IfOk, OnOk};
 ghost use Rattle.assembler.specs.Lines.{lines_of};
 
-use crate::head::Head;
 use crate::lines::split_line;
 use crate::parts::{LineParts, read_line};
 use indexmap::IndexMap;
@@ -78,8 +77,8 @@ impl<'a> Scope<'a> {
         while !rest.is_empty() {
             let (first, after) = split_line(rest);
             let parts = read_line(first);
-            if parts.head == Head::Thread {
-                break;
+            if parts.head.begins_thread() {
+                return Ok(scope);
             }
             scope.add_line(number, parts)?;
             number += 1;

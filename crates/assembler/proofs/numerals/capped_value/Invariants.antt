@@ -4,4 +4,4 @@ use Rattle.assembler.proofs.numerals.capped_value.Given as goal
 
 -- the value so far is that of the digits so far, or the cap
 abbrev pub invariant-loop-b : goal.invariant-loop-b
-invariant-loop-b l = l.value ≡ min 4294967296 (digits_value l.base (take l.b-index l.digits))
+invariant-loop-b l = l.value ≡ min 18446744073709551615 (digits_value l.base (take l.b-index l.digits))
