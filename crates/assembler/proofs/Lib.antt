@@ -5,3 +5,5 @@ pub mod Scopes
 pub mod Steps
 pub mod Lists
 pub mod Rules
+pub mod InstrRules
+pub mod Texts

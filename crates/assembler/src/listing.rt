@@ -38,7 +38,6 @@ fn put_init(out: &mut Vec<u8>, word: usize, value: u32) -> Result<(), Memory>
     Ok(())
 }
 
-#[tactic(auto, using(crate::proofs::Lists::init_lines_more, crate::proofs::Lists::init_lines_done))]
 fn put_inits(out: &mut Vec<u8>, words: &[u32]) -> Result<(), Memory>
     ensures { OnOk result (out.new.items ≡ out.old.items ++ init_lines 0 words.now) }
 {

@@ -13,8 +13,8 @@ use std::alloc::Global;
 // The program, after the last line; the line after that has this number.
 fn finish(alloc: Global, mut assembly: Assembly<'_>, line: u32) -> Result<Program, AsmFault>
     requires { assembly.has_begun ≡ true → IsProgram (program_of (progress_of assembly)) }
-    ensures ok { IfOk result (λ program. finished (progress_of assembly) line ≡ Ok program) }
-    ensures err { IfErr result (λ fault. (fault ≡ out_of_memory) ⊎ (finished (progress_of assembly) line ≡ Err fault)) }
+    ensures ok { IfOk result (λ program. finished (progress_of assembly.entry) line ≡ Ok program) }
+    ensures err { IfErr result (λ fault. (fault ≡ out_of_memory) ⊎ (finished (progress_of assembly.entry) line ≡ Err fault)) }
 {
     if !assembly.has_begun {
         return Err(AsmFault::at(line, AsmKind::NoThread));
