@@ -7,3 +7,5 @@ pub mod Lists
 pub mod Rules
 pub mod InstrRules
 pub mod Texts
+pub mod Decimals
+pub mod Tokens

@@ -34,10 +34,10 @@ before_first_at p xs i e = ap (λ n. take n xs) (sym (position_is p xs i e))
 pub before_first_none : (p : ℕ → Bool) (xs : List ℕ) → position p xs ≡ None → xs ≡ before_first p xs
 before_first_none p xs e = sym (take_all (position_or_len p xs) xs (omega (arith, position_all p xs e)))
 
-pieces_step : (p : ℕ → Bool) (x : ℕ) (xs : List ℕ) (b : Bool) → p x ≡ b → pieces p (x ∷ xs) ≡ cond b ([] ∷ pieces p xs) (onto_first x (pieces p xs))
+pub pieces_step : (p : ℕ → Bool) (x : ℕ) (xs : List ℕ) (b : Bool) → p x ≡ b → pieces p (x ∷ xs) ≡ cond b ([] ∷ pieces p xs) (onto_first x (pieces p xs))
 pieces_step p x xs b e = ap (λ c. cond c ([] ∷ pieces p xs) (onto_first x (pieces p xs))) e
 
-len_step : (p : ℕ → Bool) (x : ℕ) (xs : List ℕ) (b : Bool) → p x ≡ b → position_or_len p (x ∷ xs) ≡ cond b 0 (suc (position_or_len p xs))
+pub len_step : (p : ℕ → Bool) (x : ℕ) (xs : List ℕ) (b : Bool) → p x ≡ b → position_or_len p (x ∷ xs) ≡ cond b 0 (suc (position_or_len p xs))
 len_step p x xs true e = ap (λ c. cond (not c) (1 + position_or_len p xs) 0) e
 len_step p x xs false e = ap (λ c. cond (not c) (1 + position_or_len p xs) 0) e ∙ omega arith
 

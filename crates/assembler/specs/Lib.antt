@@ -11,3 +11,4 @@ pub mod Progress
 pub mod SeenProgress
 pub mod Assembled
 pub mod Canonical
+pub mod Laws

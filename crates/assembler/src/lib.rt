@@ -5,6 +5,7 @@ mod asm_fault;
 
 mod assembly;
 mod head;
+mod laws;
 mod lines;
 mod listing;
 mod mnemonic;
@@ -13,9 +14,12 @@ mod operands;
 mod parts;
 mod registers;
 mod scope;
+#[cfg(test)]
+mod tests;
 mod text;
 mod words;
 
 pub use asm_fault::{AsmFault, AsmKind};
 pub use text::assemble;
+pub use laws::canonical_law;
 pub use listing::list;
