@@ -9,3 +9,5 @@ pub mod InstrRules
 pub mod Texts
 pub mod Decimals
 pub mod Tokens
+pub mod OperandsBack
+pub mod CanonicalRead

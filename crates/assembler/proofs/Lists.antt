@@ -3,7 +3,7 @@ use Rattle.std.proofs.Common.{◌≡◌, ℕ, suc, zero, ◌+◌, ◌<◌, ◌�
 use Rattle.std.proofs.lemmas.List.{drop_more, drop_all, append-nil}
 use Rattle.assembler.specs.Canonical.{init_text, init_lines}
 
-lines_of_word : (n v : ℕ) (vs : List ℕ) → init_lines n (v ∷ vs) ≡ init_text n v ++ init_lines (n + 1) vs
+pub lines_of_word : (n v : ℕ) (vs : List ℕ) → init_lines n (v ∷ vs) ≡ init_text n v ++ init_lines (n + 1) vs
 unfolding init_lines
 lines_of_word n v vs = refl
 

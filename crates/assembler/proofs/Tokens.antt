@@ -67,7 +67,7 @@ not_blank b h =
         (ne_eqb b 13 (λ e. omega (arith, o.low))))
       (ne_eqb b 44 (λ e. omega (arith, o.low))))
 
-all_imp : (f g : ℕ → Bool) → ((b : ℕ) → f b ≡ true → g b ≡ true) → (xs : List ℕ) → list_all f xs ≡ true → list_all g xs ≡ true
+pub all_imp : (f g : ℕ → Bool) → ((b : ℕ) → f b ≡ true → g b ≡ true) → (xs : List ℕ) → list_all f xs ≡ true → list_all g xs ≡ true
 all_imp f g imp [] h = refl
 all_imp f g imp (x ∷ xs) h =
     let s = and_parts (f x) (list_all f xs) h in
