@@ -27,7 +27,8 @@ use Rattle.assembler.proofs.Scopes.{scope_done, scope_end, scope_more}
 use Rattle.assembler.proofs.Texts.{from_done, from_line, next, finished_begun}
 use Rattle.assembler.proofs.Decimals.{number_decimal}
 use Rattle.assembler.proofs.Tokens.{IsWord, joined, line_first, line_taken, parts_joined}
-use Rattle.assembler.proofs.OperandsBack.{operand_tokens, instr_back, operand_words, operands_spaced, mnemonic_word, head_mnemonic, decimal_word}
+use Rattle.assembler.proofs.Mnemonics.{mnemonic_word, head_mnemonic}
+use Rattle.assembler.proofs.OperandsBack.{operand_tokens, instr_back, operand_words, operands_spaced, decimal_word}
 
 abbrev Answer : Type 0
 Answer = Result ProgramValue AsmFault

@@ -9,5 +9,6 @@ pub mod InstrRules
 pub mod Texts
 pub mod Decimals
 pub mod Tokens
+pub mod Mnemonics
 pub mod OperandsBack
 pub mod CanonicalRead

@@ -6,13 +6,10 @@ use Rattle.std.proofs.lemmas.List.Concat.{flat_map-append}
 use Rattle.std.specs.List.{list_all, AllByRecursion}
 use Rattle.machine.specs.declared.program.Instr.{Instr}
 use Rattle.machine.specs.declared.program.Op.{Op}
-use Rattle.machine.specs.declared.program.Op.TheVariants as op
 use Rattle.machine.specs.Programs.{uses_a, uses_b, uses_c, uses_imm, jumps, is_register, is_idle, has_registers, has_idle_zero, IsInstr}
 use Rattle.assembler.specs.declared.asm_fault.AsmKind.{AsmKind}
 use Rattle.assembler.specs.declared.asm_fault.AsmKind.TheVariants as kind
-use Rattle.assembler.specs.declared.head.Head.TheVariants as head
-use Rattle.assembler.specs.Mnemonics.{mnemonic_of}
-use Rattle.assembler.specs.Words.{head_of, is_between, is_decimal_digit, register_of}
+use Rattle.assembler.specs.Words.{is_between, is_decimal_digit, register_of}
 use Rattle.assembler.specs.Numerals.{number_of}
 use Rattle.assembler.specs.Labels.{Labels, Scope}
 use Rattle.assembler.specs.Operands.{Registers, take_register, registers_of, greatest, name_value, imm_value, last_operand, with_imm, instr_of}
@@ -120,25 +117,6 @@ operand_words i h small =
     words_append (register_tokens (uses_a i.op) i.a) _ (register_words (uses_a i.op) i.a t.0)
       (words_append (register_tokens (uses_b i.op) i.b) _ (register_words (uses_b i.op) i.b t.1)
         (words_append (register_tokens (uses_c i.op) i.c) _ (register_words (uses_c i.op) i.c s.1) (number_words (uses_imm i.op) i.imm (omega arith))))
-
--- a mnemonic is a word, and begins its operation
-pub mnemonic_word : (o : Op) → IsWord (mnemonic_of o)
-mnemonic_word op.Halt = record { some = refl; all = refl }
-mnemonic_word op.Const = record { some = refl; all = refl }
-mnemonic_word op.Addi = record { some = refl; all = refl }
-mnemonic_word op.Jeq = record { some = refl; all = refl }
-mnemonic_word op.Out = record { some = refl; all = refl }
-mnemonic_word op.Load = record { some = refl; all = refl }
-mnemonic_word op.Store = record { some = refl; all = refl }
-
-pub head_mnemonic : (o : Op) → head_of (mnemonic_of o) ≡ head.Operation o
-head_mnemonic op.Halt = refl
-head_mnemonic op.Const = refl
-head_mnemonic op.Addi = refl
-head_mnemonic op.Jeq = refl
-head_mnemonic op.Out = refl
-head_mnemonic op.Load = refl
-head_mnemonic op.Store = refl
 
 register_spaced : (used : Bool) (r : ℕ) → flat_map spaced (register_tokens used r) ≡ register_text used r
 register_spaced true r = append-nil (spaced (114 ∷ decimal r))

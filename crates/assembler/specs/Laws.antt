@@ -1,5 +1,5 @@
 -- What is claimed of texts and programs.
-use Rattle.std.specs.Prelude.{◌≡◌, ◌<◌, ◌^◌, All, Ok}
+use Rattle.std.specs.Prelude.{◌≡◌, ℕ, List, ◌<◌, ◌^◌, All, Ok}
 use Rattle.machine.specs.declared.program.Instr.{Instr}
 use Rattle.machine.specs.Programs.{ProgramValue, IsProgram}
 use Rattle.assembler.specs.Assembled.{assembled}
@@ -13,3 +13,7 @@ pub record HasWordValues (p : ProgramValue) : Type 0 where
 -- the canonical text of a program says this program
 abbrev pub CanonicalIsRead : Type 0
 CanonicalIsRead = (p : ProgramValue) → IsProgram p → HasWordValues p → assembled (canonical p) ≡ Ok p
+
+-- what a text says keeps the rules of programs
+abbrev pub ReadProgramsAreSound : Type 0
+ReadProgramsAreSound = (text : List ℕ) (p : ProgramValue) → assembled text ≡ Ok p → IsProgram p

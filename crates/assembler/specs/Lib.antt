@@ -12,3 +12,4 @@ pub mod SeenProgress
 pub mod Assembled
 pub mod Canonical
 pub mod Laws
+pub mod Examples

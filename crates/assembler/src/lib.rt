@@ -21,5 +21,5 @@ mod words;
 
 pub use asm_fault::{AsmFault, AsmKind};
 pub use text::assemble;
-pub use laws::canonical_law;
+pub use laws::{computed_texts, text_laws};
 pub use listing::list;
