@@ -1,28 +1,24 @@
 -- The canonical text of a program is read as this program.
-use Rattle.std.proofs.Common.{◌≡◌, ℕ, zero, suc, ◌+◌, ◌<◌, ◌≤◌, ◌^◌, Bool, true, false, cond, not, ◌&&◌, eqb, ltb, leb, List, [], ◌∷◌, ◌++◌, length, set, replicate, Option, None, Some, Result, Ok, Err, All, decimal, refl, sym, ap, ◌∙◌, subst, ◌⊎◌, inl, inr, ⊎_elim, arith, flat_map, codes, length-append, append_assoc}
-use Rattle.std.proofs.lemmas.Bool.{and_from, lt-ltb, le-leb, lt-leb, eqb-true, ne_eqb, eq-eqb, cases_eq}
-use Rattle.std.proofs.lemmas.List.{append-nil, length-replicate}
+use Rattle.std.proofs.Common.{◌≡◌, ℕ, ◌+◌, ◌<◌, ◌≤◌, ◌^◌, true, false, cond, ◌&&◌, ltb, leb, List, [], ◌∷◌, ◌++◌, length, set, replicate, None, Some, Result, Ok, Err, All, decimal, refl, sym, ap, ◌∙◌, ⊎_elim, arith, flat_map, codes, length-append, append_assoc}
+use Rattle.std.proofs.lemmas.Bool.{and_from, lt-ltb, le-leb, lt-leb, ne_eqb, eq-eqb, cases_eq}
+use Rattle.std.proofs.lemmas.List.{append-nil}
 use Rattle.std.proofs.lemmas.List.Elements.{recursion_from_All}
 use Rattle.std.proofs.Math.Seq.{set-append_seam}
 use Rattle.std.specs.List.{AllByRecursion}
 use Rattle.machine.specs.declared.program.Instr.{Instr}
 use Rattle.machine.specs.Programs.{ProgramValue, IsProgram, IsCode, IsInstr, uses_a, uses_b, uses_c, uses_imm}
 use Rattle.assembler.specs.declared.asm_fault.AsmFault.{AsmFault}
-use Rattle.assembler.specs.declared.asm_fault.AsmKind.{AsmKind}
 use Rattle.assembler.specs.declared.asm_fault.AsmKind.TheVariants as kind
-use Rattle.assembler.specs.declared.head.Head.TheVariants as head
 use Rattle.assembler.specs.Lines.{lines_of}
 use Rattle.assembler.specs.Mnemonics.{mnemonic_of}
-use Rattle.assembler.specs.Words.{Head, head_of, is_operation, begins_thread}
+use Rattle.assembler.specs.Words.{head_of, is_operation, begins_thread}
 use Rattle.assembler.specs.Numerals.{number_of, both}
 use Rattle.assembler.specs.Parts.{Parts, parts_of}
 use Rattle.assembler.specs.Labels.{Scope, no_scope, scope_from, with_line}
-use Rattle.assembler.specs.Operands.{instr_of}
-use Rattle.assembler.specs.Progress.{Progress, start, threads_of, with_words, with_value, take_thread, with_instr, take_item, take_line}
-use Rattle.assembler.specs.Assembled.{assembled, assembled_from, finished, program_of}
-use Rattle.assembler.specs.Canonical.{spaced, line_end, words_line, init_line, init_text, init_lines, register_text, number_text, instr_line, thread_text, canonical}
+use Rattle.assembler.specs.Progress.{Progress, start, threads_of, with_words, with_value, with_instr, take_item}
+use Rattle.assembler.specs.Assembled.{assembled, assembled_from}
+use Rattle.assembler.specs.Canonical.{spaced, init_line, init_lines, register_text, number_text, instr_line, thread_text, canonical}
 use Rattle.assembler.specs.Laws.{HasWordValues}
-use Rattle.assembler.proofs.Lists.{lines_of_word}
 use Rattle.assembler.proofs.Scopes.{scope_done, scope_end, scope_more}
 use Rattle.assembler.proofs.Texts.{from_done, from_line, next, finished_begun}
 use Rattle.assembler.proofs.Decimals.{number_decimal}
@@ -74,9 +70,9 @@ code_read words done scope [] code n rest t h good more = ap (λ c. assembled_fr
 code_read words done scope (i ∷ is) code n rest t h good more =
     let len : length (code ++ i ∷ []) ≡ length code + 1 = length-append code (i ∷ []) in
     line_read (at words done code scope) (at words done (code ++ i ∷ []) scope) n (mnemonic_of i.op) (operand_tokens i) (flat_map instr_line is ++ rest) _ t (instr_text i (flat_map instr_line is) rest)
-      (mnemonic_word i.op) (operand_words i good.0.rules.registers good.0.small) (λ _. refl) (instr_taken words done code scope n i (lines_of (flat_map instr_line is ++ rest)) good.0 (omega arith))
-      (code_read words done scope is (code ++ i ∷ []) (n + 1) rest t (omega arith) good.1
-        (λ m. ap (λ c. assembled_from (at words done c scope) m (lines_of rest)) (append_assoc code (i ∷ []) is) ∙ more m))
+    (mnemonic_word i.op) (operand_words i good.0.rules.registers good.0.small) (λ _. refl) (instr_taken words done code scope n i (lines_of (flat_map instr_line is ++ rest)) good.0 (omega arith))
+    (code_read words done scope is (code ++ i ∷ []) (n + 1) rest t (omega arith) good.1
+    (λ m. ap (λ c. assembled_from (at words done c scope) m (lines_of rest)) (append_assoc code (i ∷ []) is) ∙ more m))
 
 abbrev scope_of : ℕ → Scope
 scope_of len = record { labels = []; len = len }
@@ -133,9 +129,9 @@ threads_read (code ∷ threads) p n good room begun =
     let done : List (List Instr) = threads_of p in
     let len : length (done ++ code ∷ []) ≡ length done + 1 = length-append done (code ∷ []) in
     line_read p (at p.words done [] scope) n (codes ".thread") [] (flat_map instr_line code ++ rest) (flat_map thread_text (code ∷ threads)) _ refl thread_word tt (λ e. absurd (cc))
-      (thread_taken p n code threads good.0 (omega arith))
-      (code_read p.words done scope code [] (n + 1) rest _ (omega (arith, good.0.short)) good.0.each
-        (λ m. threads_read threads (at p.words done code scope) m good.1 (omega arith) (λ _. refl) ∙ ap (with_threads p.words) (append_assoc done (code ∷ []) threads)))
+    (thread_taken p n code threads good.0 (omega arith))
+    (code_read p.words done scope code [] (n + 1) rest _ (omega (arith, good.0.short)) good.0.each
+    (λ m. threads_read threads (at p.words done code scope) m good.1 (omega arith) (λ _. refl) ∙ ap (with_threads p.words) (append_assoc done (code ∷ []) threads)))
 
 -- before the first thread, after an item
 abbrev before : List ℕ → Progress
@@ -164,21 +160,21 @@ inits_read (v ∷ vs) done n rest t h small more =
     let len : length (done ++ v ∷ []) ≡ length done + 1 = length-append done (v ∷ []) in
     let zeros : List ℕ = replicate (length vs) 0 in
     let on : (m : ℕ) → assembled_from (before (done ++ v ∷ zeros)) m (lines_of (init_lines (length done + 1) vs ++ rest)) ≡ t =
-      (λ m.
-        ap (λ ws. assembled_from (before ws) m (lines_of (init_lines (length done + 1) vs ++ rest))) (sym (append_assoc done (v ∷ []) zeros))
-        ∙ ap (λ k. assembled_from (before ((done ++ v ∷ []) ++ zeros)) m (lines_of (init_lines k vs ++ rest))) (sym len)
-        ∙ inits_read vs (done ++ v ∷ []) m rest t (omega arith) small.1 (λ k. ap (λ ws. assembled_from (before ws) k (lines_of rest)) (append_assoc done (v ∷ []) vs) ∙ more k)) in
+    (λ m.
+    ap (λ ws. assembled_from (before ws) m (lines_of (init_lines (length done + 1) vs ++ rest))) (sym (append_assoc done (v ∷ []) zeros))
+    ∙ ap (λ k. assembled_from (before ((done ++ v ∷ []) ++ zeros)) m (lines_of (init_lines k vs ++ rest))) (sym len)
+    ∙ inits_read vs (done ++ v ∷ []) m rest t (omega arith) small.1 (λ k. ap (λ ws. assembled_from (before ws) k (lines_of rest)) (append_assoc done (v ∷ []) vs) ∙ more k)) in
     ⊎_elim
-      (λ (e : v ≡ 0).
-        ap (λ k. assembled_from (before (done ++ k ∷ zeros)) n (lines_of (init_lines (length done) (v ∷ vs) ++ rest))) (sym e)
-        ∙ ap (λ b. assembled_from (before (done ++ v ∷ zeros)) n (lines_of ((cond b [] (init_line (length done) v) ++ init_lines (length done + 1) vs) ++ rest))) (eq-eqb v 0 e)
-        ∙ on n)
-      (λ (e : v ≡ 0 → ⊥).
-        ap (λ b. assembled_from (before (done ++ 0 ∷ zeros)) n (lines_of ((cond b [] (init_line (length done) v) ++ init_lines (length done + 1) vs) ++ rest))) (ne_eqb v 0 e)
-        ∙ line_read (before (done ++ 0 ∷ zeros)) (before (done ++ v ∷ zeros)) n (codes ".init") (decimal (length done) ∷ decimal v ∷ []) (init_lines (length done + 1) vs ++ rest) ((init_line (length done) v ++ init_lines (length done + 1) vs) ++ rest) t
-            (simp append_assoc) init_word (decimal_word (length done) (omega arith), (decimal_word v (omega arith), tt)) (λ f. absurd (cc))
-            (init_taken done zeros v n (lines_of (init_lines (length done + 1) vs ++ rest)) (omega arith) small.0) (on (n + 1)))
-      (cases_eq v 0)
+    (λ (e : v ≡ 0).
+    ap (λ k. assembled_from (before (done ++ k ∷ zeros)) n (lines_of (init_lines (length done) (v ∷ vs) ++ rest))) (sym e)
+    ∙ ap (λ b. assembled_from (before (done ++ v ∷ zeros)) n (lines_of ((cond b [] (init_line (length done) v) ++ init_lines (length done + 1) vs) ++ rest))) (eq-eqb v 0 e)
+    ∙ on n)
+    (λ (e : v ≡ 0 → ⊥).
+    ap (λ b. assembled_from (before (done ++ 0 ∷ zeros)) n (lines_of ((cond b [] (init_line (length done) v) ++ init_lines (length done + 1) vs) ++ rest))) (ne_eqb v 0 e)
+    ∙ line_read (before (done ++ 0 ∷ zeros)) (before (done ++ v ∷ zeros)) n (codes ".init") (decimal (length done) ∷ decimal v ∷ []) (init_lines (length done + 1) vs ++ rest) ((init_line (length done) v ++ init_lines (length done + 1) vs) ++ rest) t
+    (simp append_assoc) init_word (decimal_word (length done) (omega arith), (decimal_word v (omega arith), tt)) (λ f. absurd (cc))
+    (init_taken done zeros v n (lines_of (init_lines (length done + 1) vs ++ rest)) (omega arith) small.0) (on (n + 1)))
+    (cases_eq v 0)
 
 words_word : IsWord (codes ".words")
 words_word = record { some = refl; all = refl }
@@ -194,17 +190,18 @@ good_code len (i ∷ is) h g = (record { rules = h.0; small = g.0 }, good_code l
 
 good_threads : (threads : List (List Instr)) → AllByRecursion IsCode threads → AllByRecursion (All (λ (i : Instr). i.imm < 2 ^ 32)) threads → AllByRecursion IsGoodCode threads
 good_threads [] h g = tt
-good_threads (code ∷ threads) h g =
-    (record { short = h.0.short; each = good_code (length code) code (recursion_from_All (IsInstr (length code)) code h.0.each) (recursion_from_All (λ (i : Instr). i.imm < 2 ^ 32) code g.0) },
-     good_threads threads h.1 g.1)
+good_threads (code ∷ threads) h g = (
+  record { short = h.0.short; each = good_code (length code) code (recursion_from_All (IsInstr (length code)) code h.0.each) (recursion_from_All (λ (i : Instr). i.imm < 2 ^ 32) code g.0) },
+  good_threads threads h.1 g.1,
+)
 
 -- the law
 pub canonical_read : (p : ProgramValue) → IsProgram p → HasWordValues p → assembled (canonical p) ≡ Ok p
 canonical_read p rules small =
     let rest : List ℕ = flat_map thread_text p.threads in
     line_read start (before (replicate (length p.words) 0)) 1 (codes ".words") (decimal (length p.words) ∷ []) (init_lines 0 p.words ++ rest) (canonical p) _
-      (simp append_assoc) words_word (decimal_word (length p.words) (omega (arith, rules.most_words)), tt) (λ f. absurd (cc))
-      (words_taken (length p.words) 1 (lines_of (init_lines 0 p.words ++ rest)) rules.some_words rules.most_words)
-      (inits_read p.words [] 2 rest _ (omega (arith, rules.most_words)) (recursion_from_All (λ v. v < 2 ^ 32) p.words small.words)
-        (λ m. threads_read p.threads (before p.words) m (good_threads p.threads (recursion_from_All IsCode p.threads rules.each) (recursion_from_All (All (λ (i : Instr). i.imm < 2 ^ 32)) p.threads small.imms))
-          (omega (arith, rules.most_threads)) (λ e. absurd (omega (arith, ap length e, rules.some_threads)))))
+    (simp append_assoc) words_word (decimal_word (length p.words) (omega (arith, rules.most_words)), tt) (λ f. absurd (cc))
+    (words_taken (length p.words) 1 (lines_of (init_lines 0 p.words ++ rest)) rules.some_words rules.most_words)
+    (inits_read p.words [] 2 rest _ (omega (arith, rules.most_words)) (recursion_from_All (λ v. v < 2 ^ 32) p.words small.words)
+    (λ m. threads_read p.threads (before p.words) m (good_threads p.threads (recursion_from_All IsCode p.threads rules.each) (recursion_from_All (All (λ (i : Instr). i.imm < 2 ^ 32)) p.threads small.imms))
+    (omega (arith, rules.most_threads)) (λ e. absurd (omega (arith, ap length e, rules.some_threads)))))

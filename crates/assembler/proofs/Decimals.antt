@@ -1,5 +1,5 @@
 -- Decimal numbers and registers are read as what they were written for.
-use Rattle.std.proofs.Common.{◌≡◌, ℕ, suc, ◌+◌, ◌-◌, ◌*◌, ◌/◌, ◌%◌, ◌^◌, ◌<◌, ◌≤◌, Bool, true, false, cond, not, ◌&&◌, ◌||◌, eqb, ltb, leb, List, [], ◌∷◌, ◌++◌, length, Option, None, Some, decimal, refl, sym, ap, ◌∙◌, subst, ◌⊎◌, inl, inr, ⊎_elim, arith}
+use Rattle.std.proofs.Common.{◌≡◌, ℕ, ◌+◌, ◌-◌, ◌/◌, ◌%◌, ◌^◌, ◌<◌, ◌≤◌, Bool, true, false, cond, ◌&&◌, ◌||◌, eqb, leb, List, [], ◌∷◌, ◌++◌, length, None, Some, decimal, refl, ap, ◌∙◌, ⊎_elim, arith}
 use Rattle.std.proofs.lemmas.Bool.{and_parts, and_from, leb-true, lt-ltb, le-leb, ne_eqb, cases_lt}
 use Rattle.std.proofs.lemmas.Fmt.{decimal_by_steps, decimal_is_IsNumeral, decimal_digit, decimal_step}
 use Rattle.std.specs.List.{list_all}
@@ -33,9 +33,9 @@ one_digit d h = and_from (is_decimal_digit (48 + d)) true (between 48 57 (48 + d
 pub decimal_digits : (n : ℕ) → n < 2 ^ 64 → IsDigits (decimal n)
 decimal_digits n h =
     decimal_by_steps (λ _ ds. IsDigits ds)
-      (λ m low. record { some = refl; all = one_digit m low })
-      (λ m ds high d. record { some = some_push ds (48 + m % 10); all = all_append is_decimal_digit ds ((48 + m % 10) ∷ []) d.all (one_digit (m % 10) (omega arith)) })
-      n h
+    (λ m low. record { some = refl; all = one_digit m low })
+    (λ m ds high d. record { some = some_push ds (48 + m % 10); all = all_append is_decimal_digit ds ((48 + m % 10) ∷ []) d.all (one_digit (m % 10) (omega arith)) })
+    n h
 
 digits_are : (w : List ℕ) → AllDigits 10 w → list_all (λ d. is_digit d 10) w ≡ true
 digits_are [] h = refl
@@ -82,10 +82,10 @@ teen r low high =
 pub register_named : (r : ℕ) → r < 16 → register_of (114 ∷ decimal r) ≡ Some r
 register_named r h =
     ⊎_elim
-      (λ (low : r < 10).
-        ap (λ ds. register_of (114 ∷ ds)) (decimal_digit r low)
-        ∙ ap (λ b. cond b (Some ((48 + r) - 48)) None) (between 48 57 (48 + r) (omega arith) (omega arith)) ∙ ap (λ k. Some k) (omega arith))
-      (λ (high : 10 ≤ r).
-        ap (λ ds. register_of (114 ∷ ds)) (teen r high h)
-        ∙ ap (λ b. cond b (Some ((48 + r % 10) - 38)) None) (between 48 53 (48 + r % 10) (omega arith) (omega arith)) ∙ ap (λ k. Some k) (omega arith))
-      (cases_lt r 10)
+    (λ (low : r < 10).
+    ap (λ ds. register_of (114 ∷ ds)) (decimal_digit r low)
+    ∙ ap (λ b. cond b (Some ((48 + r) - 48)) None) (between 48 57 (48 + r) (omega arith) (omega arith)) ∙ ap (λ k. Some k) (omega arith))
+    (λ (high : 10 ≤ r).
+    ap (λ ds. register_of (114 ∷ ds)) (teen r high h)
+    ∙ ap (λ b. cond b (Some ((48 + r % 10) - 38)) None) (between 48 53 (48 + r % 10) (omega arith) (omega arith)) ∙ ap (λ k. Some k) (omega arith))
+    (cases_lt r 10)

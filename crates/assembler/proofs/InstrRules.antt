@@ -1,8 +1,6 @@
 -- An instruction that a text says keeps the rules of instructions.
-use Rattle.std.proofs.Common.{◌≡◌, ℕ, suc, ◌+◌, ◌-◌, ◌<◌, ◌≤◌, Bool, true, false, cond, not, ◌&&◌, ◌||◌, eqb, ltb, List, [], ◌∷◌, ◌++◌, length, Option, None, Some, option_map, option_and_then, Result, Ok, Err, refl, sym, ap, ◌∙◌, subst, ◌⊎◌, inl, inr, ⊎_elim, arith}
-use Rattle.std.proofs.lemmas.Bool.{and_parts, and_from, ltb-false, leb-true, lt-ltb, le-ltb, cases_Bool}
-use Rattle.std.specs.Map.{lookup}
-use Rattle.std.specs.Prelude.{bytes_eq}
+use Rattle.std.proofs.Common.{◌≡◌, ℕ, ◌-◌, ◌<◌, ◌≤◌, Bool, true, false, cond, not, ◌&&◌, ◌||◌, eqb, ltb, List, [], ◌∷◌, Option, None, Some, option_map, option_and_then, Result, Ok, Err, refl, sym, ap, subst, arith}
+use Rattle.std.proofs.lemmas.Bool.{and_parts, and_from, ltb-false, leb-true, lt-ltb, le-ltb}
 use Rattle.machine.specs.declared.program.Instr.{Instr}
 use Rattle.machine.specs.declared.program.Op.{Op}
 use Rattle.machine.specs.Programs.{uses_a, uses_b, uses_c, uses_imm, jumps, is_register, is_idle, IsInstr}

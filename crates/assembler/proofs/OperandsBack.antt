@@ -1,20 +1,19 @@
 -- The canonical operands of an instruction are read as the instruction.
-use Rattle.std.proofs.Common.{◌≡◌, ℕ, ◌+◌, ◌<◌, ◌≤◌, ◌^◌, Bool, true, false, cond, not, ◌&&◌, ◌||◌, eqb, ltb, leb, List, [], ◌∷◌, ◌++◌, Option, None, Some, option_map, option_and_then, Result, Ok, Err, decimal, refl, sym, ap, ◌∙◌, arith, flat_map}
+use Rattle.std.proofs.Common.{◌≡◌, ℕ, ◌<◌, ◌≤◌, ◌^◌, Bool, true, false, cond, not, ◌&&◌, ◌||◌, ltb, leb, List, [], ◌∷◌, ◌++◌, Option, None, Some, option_map, option_and_then, Result, Ok, Err, decimal, refl, sym, ap, ◌∙◌, arith, flat_map}
 use Rattle.std.proofs.lemmas.Bool.{and_parts, ltb-true, ltb-false, le-ltb, eqb-true, leb-true, not-true}
 use Rattle.std.proofs.lemmas.List.{append-nil}
 use Rattle.std.proofs.lemmas.List.Concat.{flat_map-append}
-use Rattle.std.specs.List.{list_all, AllByRecursion}
+use Rattle.std.specs.List.{AllByRecursion}
 use Rattle.machine.specs.declared.program.Instr.{Instr}
 use Rattle.machine.specs.declared.program.Op.{Op}
 use Rattle.machine.specs.Programs.{uses_a, uses_b, uses_c, uses_imm, jumps, is_register, is_idle, has_registers, has_idle_zero, IsInstr}
 use Rattle.assembler.specs.declared.asm_fault.AsmKind.{AsmKind}
 use Rattle.assembler.specs.declared.asm_fault.AsmKind.TheVariants as kind
-use Rattle.assembler.specs.Words.{is_between, is_decimal_digit, register_of}
-use Rattle.assembler.specs.Numerals.{number_of}
-use Rattle.assembler.specs.Labels.{Labels, Scope}
-use Rattle.assembler.specs.Operands.{Registers, take_register, registers_of, greatest, name_value, imm_value, last_operand, with_imm, instr_of}
+use Rattle.assembler.specs.Words.{is_between, is_decimal_digit}
+use Rattle.assembler.specs.Labels.{Scope}
+use Rattle.assembler.specs.Operands.{Registers, take_register, registers_of, greatest, name_value, last_operand, with_imm, instr_of}
 use Rattle.assembler.specs.Canonical.{spaced, register_text, number_text}
-use Rattle.assembler.proofs.Decimals.{IsDigits, between, decimal_digits, number_decimal, register_named}
+use Rattle.assembler.proofs.Decimals.{between, decimal_digits, number_decimal, register_named}
 use Rattle.assembler.proofs.Tokens.{IsWord, is_word_byte, all_imp}
 
 -- the words of the operands
@@ -115,8 +114,8 @@ operand_words i h small =
     let s = and_parts (is_register (uses_a i.op) i.a && is_register (uses_b i.op) i.b) (is_register (uses_c i.op) i.c) h in
     let t = and_parts (is_register (uses_a i.op) i.a) (is_register (uses_b i.op) i.b) s.0 in
     words_append (register_tokens (uses_a i.op) i.a) _ (register_words (uses_a i.op) i.a t.0)
-      (words_append (register_tokens (uses_b i.op) i.b) _ (register_words (uses_b i.op) i.b t.1)
-        (words_append (register_tokens (uses_c i.op) i.c) _ (register_words (uses_c i.op) i.c s.1) (number_words (uses_imm i.op) i.imm (omega arith))))
+    (words_append (register_tokens (uses_b i.op) i.b) _ (register_words (uses_b i.op) i.b t.1)
+    (words_append (register_tokens (uses_c i.op) i.c) _ (register_words (uses_c i.op) i.c s.1) (number_words (uses_imm i.op) i.imm (omega arith))))
 
 register_spaced : (used : Bool) (r : ℕ) → flat_map spaced (register_tokens used r) ≡ register_text used r
 register_spaced true r = append-nil (spaced (114 ∷ decimal r))
@@ -135,7 +134,7 @@ operands_spaced i =
     let n = number_tokens (uses_imm i.op) i.imm in
     flat_map-append spaced a (b ++ (d ++ n)) ∙ ap (λ t. t ++ flat_map spaced (b ++ (d ++ n))) (register_spaced (uses_a i.op) i.a)
     ∙ ap (λ t. register_text (uses_a i.op) i.a ++ t)
-        (flat_map-append spaced b (d ++ n) ∙ ap (λ t. t ++ flat_map spaced (d ++ n)) (register_spaced (uses_b i.op) i.b)
-        ∙ ap (λ t. register_text (uses_b i.op) i.b ++ t)
-            (flat_map-append spaced d n ∙ ap (λ t. t ++ flat_map spaced n) (register_spaced (uses_c i.op) i.c)
-            ∙ ap (λ t. register_text (uses_c i.op) i.c ++ t) (number_spaced (uses_imm i.op) i.imm)))
+    (flat_map-append spaced b (d ++ n) ∙ ap (λ t. t ++ flat_map spaced (d ++ n)) (register_spaced (uses_b i.op) i.b)
+    ∙ ap (λ t. register_text (uses_b i.op) i.b ++ t)
+    (flat_map-append spaced d n ∙ ap (λ t. t ++ flat_map spaced n) (register_spaced (uses_c i.op) i.c)
+    ∙ ap (λ t. register_text (uses_c i.op) i.c ++ t) (number_spaced (uses_imm i.op) i.imm)))

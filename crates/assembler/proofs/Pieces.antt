@@ -1,12 +1,11 @@
 -- The pieces of a list, one after the other.
-use Rattle.std.proofs.Common.{◌≡◌, ℕ, suc, zero, ◌+◌, ◌-◌, ◌<◌, ◌≤◌, Bool, true, false, cond, not, List, [], ◌∷◌, length, take, drop, get_or, ltb, refl, sym, ap, ◌∙◌, subst, Option, Some, None, arith, filter}
+use Rattle.std.proofs.Common.{◌≡◌, ℕ, suc, ◌+◌, ◌-◌, ◌<◌, ◌≤◌, Bool, true, false, cond, not, List, [], ◌∷◌, length, take, drop, get_or, ltb, refl, sym, ap, ◌∙◌, subst, Option, Some, None, arith, filter}
 use Rattle.std.specs.List.{onto_first, before_first, after_first, position_or_len, position}
-use Rattle.std.proofs.lemmas.Bool.{false≢true}
 use Rattle.std.proofs.lemmas.List.{take_all, drop_all, take_rest, get_or-drop}
 use Rattle.std.proofs.lemmas.List.Sums.{prefix_len-le-length}
 use Rattle.std.proofs.lemmas.List.Quantifiers.{position-Some}
 use borrow.Author.Tests.{ltb-true, ltb-false}
-use Rattle.assembler.specs.Lines.{pieces, tokens_of, is_blank, is_some_bytes, before_comment}
+use Rattle.assembler.specs.Lines.{pieces, tokens_of, is_blank, is_some_bytes}
 
 abbrev found : ℕ → ℕ → Option ℕ
 found n len = cond (ltb n len) (Some n) None

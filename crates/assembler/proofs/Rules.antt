@@ -1,14 +1,12 @@
 -- Every program that a text says keeps the rules of programs.
-use Rattle.std.proofs.Common.{◌≡◌, ℕ, suc, ◌+◌, ◌<◌, ◌≤◌, Bool, true, false, cond, not, ◌&&◌, ◌||◌, eqb, ltb, leb, List, [], ◌∷◌, ◌++◌, length, set, replicate, Option, None, Some, is_some, All, Result, Ok, Err, refl, sym, ap, ◌∙◌, subst, ◌⊎◌, inl, inr, ⊎_elim, arith, length-append}
-use Rattle.std.proofs.lemmas.Bool.{and_parts, and_from, ltb-false, leb-true, leb-false, cases_Bool}
+use Rattle.std.proofs.Common.{◌≡◌, ℕ, ◌+◌, ◌<◌, ◌≤◌, Bool, true, false, cond, not, ◌&&◌, ◌||◌, ltb, leb, List, [], ◌∷◌, ◌++◌, length, set, replicate, Option, None, Some, is_some, All, Result, Ok, Err, refl, sym, ap, ◌∙◌, subst, ◌⊎◌, inl, inr, ⊎_elim, arith, length-append}
+use Rattle.std.proofs.lemmas.Bool.{and_parts, leb-true, leb-false, cases_Bool}
 use Rattle.std.proofs.lemmas.List.{length-replicate, length-set}
 use Rattle.std.proofs.lemmas.List.Elements.{All-nil, All-push}
-use Rattle.std.specs.Map.{lookup}
 use Rattle.std.specs.Prelude.{bytes_eq}
 use Rattle.machine.specs.declared.program.Instr.{Instr}
 use Rattle.machine.specs.declared.program.Op.{Op}
 use Rattle.machine.specs.Programs.{ProgramValue, IsProgram, IsCode, IsInstr}
-use Rattle.assembler.specs.declared.asm_fault.AsmFault.{AsmFault}
 use Rattle.assembler.specs.declared.asm_fault.AsmKind.{AsmKind}
 use Rattle.assembler.specs.declared.asm_fault.AsmKind.TheVariants as kind
 use Rattle.assembler.specs.declared.head.Head.TheVariants as head
@@ -19,7 +17,7 @@ use Rattle.assembler.specs.Parts.{Parts, parts_of, is_plain}
 use Rattle.assembler.specs.Labels.{Label, Labels, Scope, find_label, with_label, with_line, scope_from, no_scope, is_twice}
 use Rattle.assembler.specs.Operands.{instr_of}
 use Rattle.assembler.specs.Progress.{Progress, start, threads_of, ended, with_words, with_value, take_thread, with_instr, take_item, take_parts, take_line, has_bad_label, wants_thread}
-use Rattle.assembler.specs.Assembled.{assembled, assembled_from, finished, program_of, line_fault}
+use Rattle.assembler.specs.Assembled.{assembled, assembled_from, program_of, line_fault}
 use Rattle.assembler.proofs.InstrRules.{AreWithin, if_ok, then_ok, instr_rules}
 use Rattle.assembler.proofs.Scopes.{scope_done, scope_end, scope_more}
 use Rattle.assembler.proofs.Texts.{from_done, from_line, next}
@@ -48,11 +46,11 @@ scope_len : (s : Scope) (n : ℕ) (ls : List (List ℕ)) → (scope_from s n ls)
 scope_len s n [] = ap (λ (t : Scope). t.len) (scope_done s n) ∙ omega (arith, ahead_done)
 scope_len s n (l ∷ ls) =
     ⊎_elim
-      (λ (e : begins_thread (parts_of l).head ≡ true). ap (λ (t : Scope). t.len) (scope_end s n l ls e) ∙ omega (arith, ahead_line l ls, with_head_is (parts_of l).head (ahead ls) true e))
-      (λ (e : begins_thread (parts_of l).head ≡ false).
-        ap (λ (t : Scope). t.len) (scope_more s n l ls e) ∙ scope_len (with_line s n (parts_of l)) (n + 1) ls
-        ∙ omega (arith, ahead_line l ls, with_head_is (parts_of l).head (ahead ls) false e))
-      (cases_Bool (begins_thread (parts_of l).head))
+    (λ (e : begins_thread (parts_of l).head ≡ true). ap (λ (t : Scope). t.len) (scope_end s n l ls e) ∙ omega (arith, ahead_line l ls, with_head_is (parts_of l).head (ahead ls) true e))
+    (λ (e : begins_thread (parts_of l).head ≡ false).
+    ap (λ (t : Scope). t.len) (scope_more s n l ls e) ∙ scope_len (with_line s n (parts_of l)) (n + 1) ls
+    ∙ omega (arith, ahead_line l ls, with_head_is (parts_of l).head (ahead ls) false e))
+    (cases_Bool (begins_thread (parts_of l).head))
 
 -- what is found after one more entry was there, or is the new one
 find_push : (name : List ℕ) (labels : Labels) (key : List ℕ) (v l : Label) → find_label name (labels ++ (key, v) ∷ []) ≡ Some l → (find_label name labels ≡ Some l) ⊎ (l ≡ v)
@@ -83,12 +81,12 @@ scope_within s n [] len within low = let P : Scope → Type 0 = λ t. AreWithin 
 scope_within s n (l ∷ ls) len within low =
     let P : Scope → Type 0 = λ t. AreWithin t.labels len in
     ⊎_elim
-      (λ (e : begins_thread (parts_of l).head ≡ true). subst P (sym (scope_end s n l ls e)) within)
-      (λ (e : begins_thread (parts_of l).head ≡ false).
-        subst P (sym (scope_more s n l ls e))
-          (scope_within (with_line s n (parts_of l)) (n + 1) ls len (label_within s.labels n s.len len (parts_of l).label within (omega arith))
-            (omega (arith, ahead_line l ls, with_head_is (parts_of l).head (ahead ls) false e))))
-      (cases_Bool (begins_thread (parts_of l).head))
+    (λ (e : begins_thread (parts_of l).head ≡ true). subst P (sym (scope_end s n l ls e)) within)
+    (λ (e : begins_thread (parts_of l).head ≡ false).
+    subst P (sym (scope_more s n l ls e))
+    (scope_within (with_line s n (parts_of l)) (n + 1) ls len (label_within s.labels n s.len len (parts_of l).label within (omega arith))
+    (omega (arith, ahead_line l ls, with_head_is (parts_of l).head (ahead ls) false e))))
+    (cases_Bool (begins_thread (parts_of l).head))
 
 -- the current thread counts where one has begun
 threads_count : (b : Bool) (done : List (List Instr)) (code : List Instr) → length (cond b (done ++ code ∷ []) done) ≡ length done + cond b 1 0

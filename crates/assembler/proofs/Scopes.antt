@@ -1,5 +1,5 @@
 -- A thread's scope, one line after the other.
-use Rattle.std.proofs.Common.{◌≡◌, ℕ, ◌+◌, Bool, true, false, cond, List, [], ◌∷◌, length, refl, sym, ap, ◌∙◌, arith}
+use Rattle.std.proofs.Common.{◌≡◌, ℕ, ◌+◌, true, false, cond, List, [], ◌∷◌, length, refl, sym, ap, ◌∙◌, arith}
 use Rattle.assembler.specs.Lines.{lines_of}
 use Rattle.assembler.specs.Words.{begins_thread}
 use Rattle.assembler.specs.Parts.{Parts, parts_of}

@@ -1,5 +1,5 @@
 -- What directives do, from numbers that were read up to a cap.
-use Rattle.std.proofs.Common.{◌≡◌, ℕ, ◌<◌, ◌≤◌, Bool, true, false, cond, ◌&&◌, ltb, leb, length, min, set, Option, None, Some, Result, Ok, Err, option_map, refl, sym, ap, ◌∙◌, arith, lt-ltb, le-leb}
+use Rattle.std.proofs.Common.{◌≡◌, ℕ, ◌<◌, ◌≤◌, true, false, cond, ◌&&◌, ltb, leb, length, min, set, Option, None, Some, Result, Ok, Err, option_map, ap, ◌∙◌, arith, lt-ltb, le-leb}
 use Rattle.assembler.specs.declared.asm_fault.AsmKind.{AsmKind}
 use Rattle.assembler.specs.declared.asm_fault.AsmKind.TheVariants as kind
 use Rattle.assembler.specs.Progress.{Progress, with_value}
@@ -18,5 +18,5 @@ value_set most p (Some n) w v e f g h i =
     let word : n.0 ≡ w = omega arith in
     let value : n.1 ≡ v = omega arith in
     let fits : (ltb n.0 (length p.words) && leb n.1 4294967295) ≡ true =
-        ap (λ b. b && leb n.1 4294967295) (lt-ltb n.0 (length p.words) (omega arith)) ∙ le-leb n.1 4294967295 (omega arith) in
+    ap (λ b. b && leb n.1 4294967295) (lt-ltb n.0 (length p.words) (omega arith)) ∙ le-leb n.1 4294967295 (omega arith) in
     ap (λ b. cond b (with_word p n.0 n.1) (Err kind.Number)) fits ∙ ap (λ k. with_word p k n.1) word ∙ ap (λ k. with_word p w k) value

@@ -1,5 +1,5 @@
 -- A text, one line after the other.
-use Rattle.std.proofs.Common.{◌≡◌, ℕ, ◌+◌, Bool, true, false, cond, List, [], ◌∷◌, length, Result, Ok, Err, refl, sym, ap, ◌∙◌, ◌⊎◌, inl, inr, ⊎_elim, arith}
+use Rattle.std.proofs.Common.{◌≡◌, ℕ, ◌+◌, true, cond, List, [], ◌∷◌, length, Result, Ok, Err, refl, sym, ap, ◌∙◌, ◌⊎◌, inl, inr, ⊎_elim, arith}
 use Rattle.machine.specs.Programs.{ProgramValue}
 use Rattle.assembler.specs.declared.asm_fault.AsmFault.{AsmFault}
 use Rattle.assembler.specs.declared.asm_fault.AsmKind.{AsmKind}

@@ -1,13 +1,12 @@
 -- A line of words, with one space between two, is read as these words.
-use Rattle.std.proofs.Common.{◌≡◌, ℕ, zero, suc, ◌+◌, ◌-◌, ◌<◌, ◌≤◌, Bool, true, false, cond, not, ◌&&◌, ◌||◌, eqb, ltb, leb, List, [], ◌∷◌, ◌++◌, length, get_or, take, filter, Option, None, Some, is_some, Result, Ok, Err, refl, sym, ap, ◌∙◌, subst, ◌⊎◌, inl, inr, ⊎_elim, arith, flat_map}
+use Rattle.std.proofs.Common.{◌≡◌, ℕ, zero, suc, ◌-◌, ◌<◌, ◌≤◌, Bool, true, false, cond, not, ◌&&◌, ◌||◌, eqb, leb, List, [], ◌∷◌, ◌++◌, length, get_or, take, filter, Option, None, Some, is_some, Err, refl, sym, ap, ◌∙◌, ⊎_elim, arith, flat_map}
 use Rattle.std.proofs.lemmas.Bool.{and_parts, and_from, leb-true, ne_eqb, eqb-true, or_cases}
 use Rattle.std.proofs.lemmas.List.{append-nil}
-use Rattle.std.specs.List.{list_all, onto_first, before_first, position_or_len, AllByRecursion}
-use Rattle.assembler.specs.declared.asm_fault.AsmKind.{AsmKind}
+use Rattle.std.specs.List.{list_all, onto_first, before_first, AllByRecursion}
 use Rattle.assembler.specs.declared.asm_fault.AsmKind.TheVariants as kind
-use Rattle.assembler.specs.Lines.{pieces, is_line_end, lines_of, is_comment_start, before_comment, is_blank, is_some_bytes, tokens_of}
+use Rattle.assembler.specs.Lines.{pieces, is_line_end, lines_of, is_comment_start, is_blank, is_some_bytes, tokens_of}
 use Rattle.assembler.specs.Words.{is_between, head_of, is_operation}
-use Rattle.assembler.specs.Parts.{Parts, label_in, first_of, after_first_of, parts_in, parts_of, is_plain_byte, is_plain}
+use Rattle.assembler.specs.Parts.{Parts, label_in, first_of, after_first_of, parts_in, parts_of, is_plain_byte}
 use Rattle.assembler.specs.Progress.{Progress, take_item, take_parts, take_line}
 use Rattle.assembler.specs.Canonical.{spaced}
 use Rattle.assembler.proofs.Pieces.{pieces_step, len_step}
@@ -30,17 +29,17 @@ record IsOther (b : ℕ) : Type 0 where
 other : (b : ℕ) → is_word_byte b ≡ true → IsOther b
 other b h =
     ⊎_elim
-      (λ (e : is_between 46 57 b ≡ true).
-        let s = and_parts (leb 46 b) (leb b 57) e in
-        let low : 46 ≤ b = leb-true 46 b s.0 in
-        let high : b ≤ 57 = leb-true b 57 s.1 in
-        record { low = low; high = omega arith; no_colon = λ f. omega arith; no_semicolon = λ f. omega arith })
-      (λ (e : is_between 97 122 b ≡ true).
-        let s = and_parts (leb 97 b) (leb b 122) e in
-        let low : 97 ≤ b = leb-true 97 b s.0 in
-        let high : b ≤ 122 = leb-true b 122 s.1 in
-        record { low = omega arith; high = high; no_colon = λ f. omega arith; no_semicolon = λ f. omega arith })
-      (or_cases (is_between 46 57 b) (is_between 97 122 b) h)
+    (λ (e : is_between 46 57 b ≡ true).
+    let s = and_parts (leb 46 b) (leb b 57) e in
+    let low : 46 ≤ b = leb-true 46 b s.0 in
+    let high : b ≤ 57 = leb-true b 57 s.1 in
+    record { low = low; high = omega arith; no_colon = λ f. omega arith; no_semicolon = λ f. omega arith })
+    (λ (e : is_between 97 122 b ≡ true).
+    let s = and_parts (leb 97 b) (leb b 122) e in
+    let low : 97 ≤ b = leb-true 97 b s.0 in
+    let high : b ≤ 122 = leb-true b 122 s.1 in
+    record { low = omega arith; high = high; no_colon = λ f. omega arith; no_semicolon = λ f. omega arith })
+    (or_cases (is_between 46 57 b) (is_between 97 122 b) h)
 
 or_false : (a b : Bool) → a ≡ false → b ≡ false → (a || b) ≡ false
 or_false true b e f = absurd (cc)
@@ -62,10 +61,10 @@ not_blank : (b : ℕ) → is_word_byte b ≡ true → not (is_blank b) ≡ true
 not_blank b h =
     let o = other b h in
     not_of (is_blank b) (or_false (((eqb b 32) || (eqb b 9)) || (eqb b 13)) (eqb b 44)
-      (or_false ((eqb b 32) || (eqb b 9)) (eqb b 13)
-        (or_false (eqb b 32) (eqb b 9) (ne_eqb b 32 (λ e. omega (arith, o.low))) (ne_eqb b 9 (λ e. omega (arith, o.low))))
-        (ne_eqb b 13 (λ e. omega (arith, o.low))))
-      (ne_eqb b 44 (λ e. omega (arith, o.low))))
+    (or_false ((eqb b 32) || (eqb b 9)) (eqb b 13)
+    (or_false (eqb b 32) (eqb b 9) (ne_eqb b 32 (λ e. omega (arith, o.low))) (ne_eqb b 9 (λ e. omega (arith, o.low))))
+    (ne_eqb b 13 (λ e. omega (arith, o.low))))
+    (ne_eqb b 44 (λ e. omega (arith, o.low))))
 
 pub all_imp : (f g : ℕ → Bool) → ((b : ℕ) → f b ≡ true → g b ≡ true) → (xs : List ℕ) → list_all f xs ≡ true → list_all g xs ≡ true
 all_imp f g imp [] h = refl
@@ -137,23 +136,23 @@ IsLineByte b = is_line_byte b ≡ true
 plain_byte : (b : ℕ) → IsLineByte b → is_plain_byte b ≡ true
 plain_byte b h =
     ⊎_elim
-      (λ (e : is_word_byte b ≡ true). let o = other b e in or_right ((eqb b 9) || (eqb b 13)) (is_between 32 126 b) (between 32 126 b (omega (arith, o.low)) (omega (arith, o.high))))
-      (λ (e : eqb b 32 ≡ true). ap is_plain_byte (eqb-true b 32 e))
-      (or_cases (is_word_byte b) (eqb b 32) h)
+    (λ (e : is_word_byte b ≡ true). let o = other b e in or_right ((eqb b 9) || (eqb b 13)) (is_between 32 126 b) (between 32 126 b (omega (arith, o.low)) (omega (arith, o.high))))
+    (λ (e : eqb b 32 ≡ true). ap is_plain_byte (eqb-true b 32 e))
+    (or_cases (is_word_byte b) (eqb b 32) h)
 
 no_comment : (b : ℕ) → IsLineByte b → not (is_comment_start b) ≡ true
 no_comment b h =
     ⊎_elim
-      (λ (e : is_word_byte b ≡ true). not_of (eqb b 59) (ne_eqb b 59 (other b e).no_semicolon))
-      (λ (e : eqb b 32 ≡ true). ap (λ k. not (is_comment_start k)) (eqb-true b 32 e))
-      (or_cases (is_word_byte b) (eqb b 32) h)
+    (λ (e : is_word_byte b ≡ true). not_of (eqb b 59) (ne_eqb b 59 (other b e).no_semicolon))
+    (λ (e : eqb b 32 ≡ true). ap (λ k. not (is_comment_start k)) (eqb-true b 32 e))
+    (or_cases (is_word_byte b) (eqb b 32) h)
 
 no_end : (b : ℕ) → IsLineByte b → not (is_line_end b) ≡ true
 no_end b h =
     ⊎_elim
-      (λ (e : is_word_byte b ≡ true). let o = other b e in not_of (eqb b 10) (ne_eqb b 10 (λ f. omega (arith, o.low))))
-      (λ (e : eqb b 32 ≡ true). ap (λ k. not (is_line_end k)) (eqb-true b 32 e))
-      (or_cases (is_word_byte b) (eqb b 32) h)
+    (λ (e : is_word_byte b ≡ true). let o = other b e in not_of (eqb b 10) (ne_eqb b 10 (λ f. omega (arith, o.low))))
+    (λ (e : eqb b 32 ≡ true). ap (λ k. not (is_line_end k)) (eqb-true b 32 e))
+    (or_cases (is_word_byte b) (eqb b 32) h)
 
 -- the line is one line
 pub line_first : (w : List ℕ) (ws : List (List ℕ)) (rest : List ℕ) → IsWord w → AllByRecursion IsWord ws → lines_of (joined w ws ++ 10 ∷ rest) ≡ joined w ws ∷ lines_of rest

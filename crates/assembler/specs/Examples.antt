@@ -17,9 +17,9 @@ abbrev pub message_passing : ProgramValue
 message_passing = record {
   words = 0 ∷ 0 ∷ [];
   threads =
-    (instr op.Const 1 0 42 ∷ instr op.Store 1 0 0 ∷ instr op.Const 2 0 1 ∷ instr op.Store 2 0 1 ∷ [])
-    ∷ (instr op.Load 1 0 1 ∷ instr op.Jeq 1 0 0 ∷ instr op.Load 2 0 0 ∷ instr op.Out 2 0 0 ∷ [])
-    ∷ [];
+      (instr op.Const 1 0 42 ∷ instr op.Store 1 0 0 ∷ instr op.Const 2 0 1 ∷ instr op.Store 2 0 1 ∷ [])
+      ∷ (instr op.Load 1 0 1 ∷ instr op.Jeq 1 0 0 ∷ instr op.Load 2 0 0 ∷ instr op.Out 2 0 0 ∷ [])
+      ∷ [];
 }
 
 abbrev pub IsRefused : List ℕ → ℕ → AsmKind → Type 0

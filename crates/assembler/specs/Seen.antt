@@ -1,5 +1,5 @@
 -- What the program's values stand for.
-use Rattle.std.specs.Prelude.{ℕ, List, map, Option, option_copied}
+use Rattle.std.specs.Prelude.{ℕ, List, map, option_copied}
 use Rattle.std.specs.HashMap.{HashMap}
 use Rattle.std.specs.Borrow.{Bor}
 use Rattle.assembler.specs.declared.parts.LineParts.{LineParts}

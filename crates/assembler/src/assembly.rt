@@ -100,7 +100,13 @@ impl<'a> Assembly<'a> {
     }
 
     // `.thread`
-    fn take_thread(&mut self, alloc: Global, line: u32, operands: &[u8], after: &'a [u8]) -> Result<(), AsmKind>
+    fn take_thread(
+        &mut self,
+        alloc: Global,
+        line: u32,
+        operands: &[u8],
+        after: &'a [u8],
+    ) -> Result<(), AsmKind>
         requires { line + 1 + length after.now < 2 ^ 32 }
         ensures { Takes (take_thread (progress_of self.old) line (tokens_of operands.now) (lines_of after.entry.now)) result (progress_of self.new) }
     {
@@ -130,7 +136,13 @@ impl<'a> Assembly<'a> {
         Ok(())
     }
 
-    fn take_item(&mut self, alloc: Global, line: u32, parts: LineParts<'a>, after: &'a [u8]) -> Result<(), AsmKind>
+    fn take_item(
+        &mut self,
+        alloc: Global,
+        line: u32,
+        parts: LineParts<'a>,
+        after: &'a [u8],
+    ) -> Result<(), AsmKind>
         requires { line + 1 + length after.now < 2 ^ 32 }
         ensures { Takes (take_item (progress_of self.old) line (parts_seen parts.entry).head (parts_seen parts.entry).operands (lines_of after.entry.now)) result (progress_of self.new) }
     {
@@ -158,7 +170,13 @@ impl<'a> Assembly<'a> {
     }
 
     /// Takes one more line, after which this text follows.
-    pub fn take_line(&mut self, alloc: Global, line: u32, bytes: &'a [u8], after: &'a [u8]) -> Result<(), AsmKind>
+    pub fn take_line(
+        &mut self,
+        alloc: Global,
+        line: u32,
+        bytes: &'a [u8],
+        after: &'a [u8],
+    ) -> Result<(), AsmKind>
         requires { line + 1 + length after.now < 2 ^ 32 }
         ensures { Takes (take_line (progress_of self.old) line bytes.entry.now (lines_of after.entry.now)) result (progress_of self.new) }
     {

@@ -6,8 +6,7 @@ ghost use Rattle.assembler.specs.Examples.{MessageIsRead, MessageIsListed, Value
 pub fn text_laws()
     ensures canonical { CanonicalIsRead }
     ensures sound { ReadProgramsAreSound }
-{
-}
+{}
 
 /// Small texts, computed from the definitions alone.
 pub fn computed_texts()
@@ -17,5 +16,4 @@ pub fn computed_texts()
     ensures faults { FaultsAreFound }
     ensures no_thread { NoThreadIsFound }
     ensures apart { ThreadsAreApart }
-{
-}
+{}

@@ -2,7 +2,6 @@
 #![tactic(auto)]
 
 mod asm_fault;
-
 mod assembly;
 mod head;
 mod laws;
@@ -20,6 +19,6 @@ mod text;
 mod words;
 
 pub use asm_fault::{AsmFault, AsmKind};
-pub use text::assemble;
 pub use laws::{computed_texts, text_laws};
 pub use listing::list;
+pub use text::assemble;

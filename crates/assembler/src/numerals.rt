@@ -47,7 +47,9 @@ fn capped_value(base: u8, digits: &[u8]) -> u64
 {
     let mut value: u64 = 0;
     for b in digits {
-        value = value.saturating_mul(u64::from(base)).saturating_add(u64::from(digit_value(*b)));
+        value = value
+            .saturating_mul(u64::from(base))
+            .saturating_add(u64::from(digit_value(*b)));
     }
     value
 }

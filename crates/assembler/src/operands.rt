@@ -70,7 +70,12 @@ fn imm_value(is_target: bool, scope: &Scope<'_>, word: &[u8]) -> Result<u32, Asm
 }
 
 // imm where it is used, and nothing after it.
-fn last_operand(used: bool, is_target: bool, scope: &Scope<'_>, tokens: &[u8]) -> Result<u32, AsmKind>
+fn last_operand(
+    used: bool,
+    is_target: bool,
+    scope: &Scope<'_>,
+    tokens: &[u8],
+) -> Result<u32, AsmKind>
     ensures { result ≡ last_operand used is_target (scope_seen scope.now) (tokens_of tokens.now) }
 {
     match next_token(tokens) {
@@ -91,7 +96,12 @@ pub fn read_instr(op: Op, scope: &Scope<'_>, tokens: &[u8]) -> Result<Instr, Asm
 {
     match registers(op, tokens) {
         None => Err(AsmKind::Operand),
-        Some(Registers { a, b, c, rest }) => match last_operand(uses_imm(op), jumps(op), scope, rest) {
+        Some(Registers { a, b, c, rest }) => match last_operand(
+            uses_imm(op),
+            jumps(op),
+            scope,
+            rest,
+        ) {
             Err(kind) => Err(kind),
             Ok(imm) => Ok(Instr { op, a, b, c, imm }),
         },

@@ -125,7 +125,10 @@ fn programs_are_listed(rt: HostRuntime) -> Result<(), Fail> {
         let (text, canonical) = row.split_once('|').unwrap_or(("", ""));
         let canonical = bytes_of(alloc, canonical)?;
         let found = listed(alloc, &bytes_of(alloc, text)?);
-        assert!(rt; found.is_some_and(|found| found.as_slice() == canonical.as_slice()), "{row}");
+        assert!(rt;
+            found.is_some_and(|found| found.as_slice() == canonical.as_slice()),
+            "{row}"
+        );
     }
     Ok(())
 }

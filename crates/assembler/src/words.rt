@@ -4,8 +4,8 @@ ghost use Rattle.std.specs.List.{list_all};
 ghost use Rattle.assembler.specs.Words.{begins_name, continues_name, is_name, register_of, spells, op_named, head_of};
 ghost use Rattle.std.specs.Char.{to_ascii_lowercase};
 
-use crate::mnemonic::{OPS, mnemonic};
 use crate::head::Head;
+use crate::mnemonic::{OPS, mnemonic};
 use machine::Op;
 
 fn begins_name(b: u8) -> bool

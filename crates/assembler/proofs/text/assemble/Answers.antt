@@ -1,9 +1,8 @@
-use Rattle.std.proofs.Common.{◌≡◌, ◌⊎◌, Ok, Err, IfOk, IfErr, Result, subst, sym, ap, ◌∙◌, inl, inr, arith}
+use Rattle.std.proofs.Common.{◌≡◌, ◌⊎◌, Ok, Err, IfOk, IfErr, Result, subst, sym, ◌∙◌, arith}
 use Rattle.std.proofs.lemmas.Bool.{eqb-true}
 use Rattle.machine.specs.Programs.{ProgramValue}
 use Rattle.assembler.specs.declared.asm_fault.AsmFault.{AsmFault}
-use Rattle.assembler.specs.Lines.{lines_of}
-use Rattle.assembler.specs.Assembled.{assembled, finished, out_of_memory}
+use Rattle.assembler.specs.Assembled.{assembled, out_of_memory}
 use Rattle.assembler.specs.SeenProgress.{progress_of}
 use Rattle.assembler.proofs.Texts.{text_last, text_next, text_fault, finished_begun}
 use Rattle.assembler.proofs.Rules.{assembled_rules}
@@ -13,13 +12,13 @@ pub returns-in-Err-clause-err : goal.returns-in-Err-clause-err
 returns-in-Err-clause-err c =
     let P : AsmFault → Type 0 = λ f. (f ≡ out_of_memory) ⊎ (assembled c.args.text.now ≡ Err f) in
     subst P (sym c.at.ensures)
-      (text_fault (progress_of c.loop-rest.assembly) c.loop-rest.line c.loop-rest.rest.now c.split_line.result.0.now c.split_line.result.1.now (assembled c.args.text.now) c.in-Err.kind
-        c.split_line.ensures.lines c.in-Err.ensures c.loop-rest.invariant.same)
+    (text_fault (progress_of c.loop-rest.assembly) c.loop-rest.line c.loop-rest.rest.now c.split_line.result.0.now c.split_line.result.1.now (assembled c.args.text.now) c.in-Err.kind
+    c.split_line.ensures.lines c.in-Err.ensures c.loop-rest.invariant.same)
 
 pub loop-rest-preserved : goal.loop-rest-preserved
 loop-rest-preserved c = record {
   same = text_next (progress_of c.loop-rest.assembly) c.loop-rest.line c.loop-rest.rest.now c.split_line.result.0.now c.split_line.result.1.now (assembled c.args.text.now) (Ok (progress_of c.take_line.new.self))
-    c.split_line.ensures.lines c.in_default.ensures c.loop-rest.invariant.same;
+      c.split_line.ensures.lines c.in_default.ensures c.loop-rest.invariant.same;
   lines = omega arith;
 }
 

@@ -6,7 +6,7 @@ use Rattle.assembler.proofs.scope.Scope.of.Goals as goal
 pub loop-rest-preserved : goal.loop-rest-preserved
 loop-rest-preserved c = record {
   same = text_more (scope_seen c.loop-rest.scope) (scope_seen c.add_line.new.self) _ c.loop-rest.number (parts_seen c.read_line-parts.result) c.loop-rest.rest.now c.split_line.result.0.now
-    c.split_line.result.1.now c.read_line-parts.ensures c.split_line.ensures.lines (sym c.begins_thread.ensures ∙ c.if-begins_thread.false) c.in_ok-add_line.ensures.ok c.loop-rest.invariant.same;
+      c.split_line.result.1.now c.read_line-parts.ensures c.split_line.ensures.lines (sym c.begins_thread.ensures ∙ c.if-begins_thread.false) c.in_ok-add_line.ensures.ok c.loop-rest.invariant.same;
   lines = omega arith;
   instructions = omega (arith, c.add_line.ensures.len);
 }
