@@ -1,0 +1,14 @@
+pub mod Pieces
+pub mod Capped
+pub mod Labels
+pub mod Scopes
+pub mod Steps
+pub mod Lists
+pub mod Rules
+pub mod InstrRules
+pub mod Texts
+pub mod Decimals
+pub mod Tokens
+pub mod Mnemonics
+pub mod OperandsBack
+pub mod CanonicalRead

@@ -1,0 +1,9 @@
+use Rattle.assembler.proofs.CanonicalRead.{canonical_read}
+use Rattle.assembler.proofs.Rules.{assembled_rules}
+use Rattle.assembler.proofs.laws.text_laws.Goals as goal
+
+pub returns : goal.returns
+returns c = record {
+  canonical = canonical_read;
+  sound = assembled_rules;
+}

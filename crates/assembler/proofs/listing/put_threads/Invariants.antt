@@ -1,0 +1,7 @@
+use Rattle.std.proofs.Common.{◌≡◌, ◌++◌, drop, flat_map}
+use Rattle.assembler.specs.Canonical.{thread_text}
+use Rattle.assembler.proofs.listing.put_threads.Given as goal
+
+-- the texts so far, and those of the threads that are left
+abbrev pub invariant-loop-thread : goal.invariant-loop-thread
+invariant-loop-thread l = l.out.items ++ flat_map thread_text (drop l.thread l.program.threads) ≡ l.fn.out.items ++ flat_map thread_text l.program.threads

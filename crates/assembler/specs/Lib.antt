@@ -1,0 +1,15 @@
+pub mod Lines
+pub mod Mnemonics
+pub mod Words
+pub mod Numerals
+pub mod Parts
+pub mod Labels
+pub mod Seen
+pub mod Operands
+pub mod SeenOperands
+pub mod Progress
+pub mod SeenProgress
+pub mod Assembled
+pub mod Canonical
+pub mod Laws
+pub mod Examples

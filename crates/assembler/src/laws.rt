@@ -1,0 +1,19 @@
+// Laws of the definitions, and what they say of small texts.
+ghost use Rattle.assembler.specs.Laws.{CanonicalIsRead, ReadProgramsAreSound};
+ghost use Rattle.assembler.specs.Examples.{MessageIsRead, MessageIsListed, ValuesAreRead, FaultsAreFound, NoThreadIsFound, ThreadsAreApart};
+
+/// The canonical text of a program says this program; and what a text says keeps the rules of programs.
+pub fn text_laws()
+    ensures canonical { CanonicalIsRead }
+    ensures sound { ReadProgramsAreSound }
+{}
+
+/// Small texts, computed from the definitions alone.
+pub fn computed_texts()
+    ensures message { MessageIsRead }
+    ensures listed { MessageIsListed }
+    ensures values { ValuesAreRead }
+    ensures faults { FaultsAreFound }
+    ensures no_thread { NoThreadIsFound }
+    ensures apart { ThreadsAreApart }
+{}

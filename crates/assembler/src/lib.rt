@@ -1,0 +1,24 @@
+//! Programs written as text: the text's grammar, and the program that it says.
+#![tactic(auto)]
+
+mod asm_fault;
+mod assembly;
+mod head;
+mod laws;
+mod lines;
+mod listing;
+mod mnemonic;
+mod numerals;
+mod operands;
+mod parts;
+mod registers;
+mod scope;
+#[cfg(test)]
+mod tests;
+mod text;
+mod words;
+
+pub use asm_fault::{AsmFault, AsmKind};
+pub use laws::{computed_texts, text_laws};
+pub use listing::list;
+pub use text::assemble;
