@@ -1,5 +1,5 @@
 -- What is answered follows from what stands in the way of a request, or that nothing does.
-use Rattle.std.proofs.Common.{◌≡◌, ◌⊎◌, ℕ, ◌+◌, ◌<◌, ◌≤◌, Bool, IsTrue, List, length, Option, None, Some, IfSome, IsSomeAnd, refl, ap, subst, inl, inr, arith}
+use Rattle.std.proofs.Common.{◌≡◌, ◌⊎◌, ℕ, ◌+◌, ◌<◌, ◌≤◌, IsTrue, List, length, Option, None, Some, IfSome, IsSomeAnd, refl, ap, subst, inl, inr, arith}
 use Rattle.std.specs.FinMap.{get}
 use Rattle.light_base.specs.Causes.{Rose}
 use Rattle.light_base.specs.FileMap.{Files}
@@ -7,7 +7,7 @@ use Rattle.machine.specs.declared.image_fault.ImageFault.{ImageFault}
 use Rattle.light_top.specs.Words.{Request, Run, Record}
 use Rattle.light_top.specs.Loading.{most_bytes}
 use Rattle.light_top.specs.Reading.{IsSomeImage, IsRefused}
-use Rattle.light_top.specs.Commands.{HasFile, IsTooLong, Means, IsReady, MissesName, LoadsTooLong, ReadsImage}
+use Rattle.light_top.specs.Commands.{Means, IsReady, MissesName, LoadsTooLong, ReadsImage}
 use Rattle.light_top.specs.Ends.{Outside, Stands, Ends, IsExcused, Answers, CanBeDone}
 use Rattle.light_top.specs.declared.status.Status.{Status}
 use Rattle.light_top.specs.declared.status.Status.TheVariants as status

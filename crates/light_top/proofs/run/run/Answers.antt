@@ -1,7 +1,5 @@
-use Rattle.std.proofs.Common.{◌≡◌, sym, subst, ap, ◌∙◌}
+use Rattle.std.proofs.Common.{subst, ◌∙◌}
 use Rattle.machine.specs.Images.{IsImage}
-use Rattle.machine.specs.Runs.{rounds_of}
-use Rattle.transcript.specs.Transcripts.{transcript_of}
 use Rattle.light_top.specs.Words.{Run}
 use Rattle.light_top.specs.Playing.{IsPlayed}
 use Rattle.light_top.specs.Ends.{outside}
