@@ -24,9 +24,9 @@ impl Model for RunLog {
 
     ghost use Rattle.dep_log.specs.RunLogs.{IsRunLog};
 
-    ghost view = { λ l. record { digest = l.digest; limits = record { steps = l.limits.steps; instr = l.limits.instr; entries = l.limits.entries }; threads = l.threads.items; lasts = l.finals.items } };
+    ghost view = { λ l. record { digest = l.digest; limits = l.limits; threads = l.threads.items; lasts = l.finals.items } };
 
-    ghost invariant = { λ l. IsRunLog (record { digest = l.digest; limits = record { steps = l.limits.steps; instr = l.limits.instr; entries = l.limits.entries }; threads = l.threads.items; lasts = l.finals.items }) };
+    ghost invariant = { λ l. IsRunLog (record { digest = l.digest; limits = l.limits; threads = l.threads.items; lasts = l.finals.items }) };
 }
 
 impl RunLog {
@@ -37,8 +37,8 @@ impl RunLog {
         threads: Vec<ThreadLog>,
         finals: Vec<Tag>,
     ) -> RunLog
-        requires { IsRunLog (record { digest = digest; limits = record { steps = limits.steps; instr = limits.instr; entries = limits.entries }; threads = threads.items; lasts = finals.items }) }
-        ensures { result ≡ record { digest = digest; limits = record { steps = limits.steps; instr = limits.instr; entries = limits.entries }; threads = threads.items; lasts = finals.items } }
+        requires { IsRunLog (record { digest = digest; limits = limits; threads = threads.items; lasts = finals.items }) }
+        ensures { result ≡ record { digest = digest; limits = limits; threads = threads.items; lasts = finals.items } }
     {
         RunLog {
             digest,
@@ -64,7 +64,7 @@ impl RunLog {
 
     /// The limits under which the threads ran.
     pub fn limits(&self) -> &Limits
-        ensures { record { steps = result.now.steps; instr = result.now.instr; entries = result.now.entries } ≡ self.now.limits }
+        ensures { result.now ≡ self.now.limits }
     {
         &self.limits
     }
@@ -88,7 +88,7 @@ impl RunLog {
     /// The digest, the limits, the threads' logs and the last tags.
     pub fn into_parts(self) -> ([u8; 32], Limits, Vec<ThreadLog>, Vec<Tag>)
         ensures digest { result.0 ≡ self.digest }
-        ensures limits { record { steps = result.1.steps; instr = result.1.instr; entries = result.1.entries } ≡ self.limits }
+        ensures limits { result.1 ≡ self.limits }
         ensures threads { result.2.items ≡ self.threads }
         ensures finals { result.3.items ≡ self.lasts }
         ensures rules { IsRunLog self }

@@ -11,7 +11,11 @@ use light_base::Memory;
 use std::alloc::Global;
 
 // The entries of each of the machine's threads, of which there are so many.
-pub(crate) fn all_entries(alloc: Global, plain: &Plain, threads: u8) -> Result<Vec<Vec<Entry>>, Memory>
+pub(crate) fn all_entries(
+    alloc: Global,
+    plain: &Plain,
+    threads: u8,
+) -> Result<Vec<Vec<Entry>>, Memory>
     requires { threads ≡ length plain.now.program.threads }
     ensures { IfOk result (λ all. entry_lists all.items ≡ entries_by plain.now (range_with_len 0 (length plain.now.program.threads))) }
 {

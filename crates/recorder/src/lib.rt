@@ -8,3 +8,6 @@ mod turns;
 
 pub use recorded::Recorded;
 pub use turns::record_turns;
+
+#[cfg(test)]
+mod tests;
