@@ -17,7 +17,10 @@ pub struct FileStore<'a, R> {
 }
 
 impl<'a, R: Files> FileStore<'a, R> {
-    pub fn new(rt: &'a R) -> Self {
+    /// The files of this system, with no fault so far.
+    pub fn new(rt: &'a R) -> Self
+        ensures { result.faults ≡ 0 }
+    {
         FileStore { rt, faults: 0 }
     }
 }

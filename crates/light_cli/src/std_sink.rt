@@ -1,5 +1,5 @@
 // A sink over any writer. It tells nothing of the bytes.
-ghost use Rattle.std.specs.Prelude.{None, ◌<◌, ◌≤◌, ◌^◌, length, IfSome};
+ghost use Rattle.std.specs.Prelude.{None, ◌≡◌, ◌<◌, ◌≤◌, ◌^◌, length, IfSome};
 
 use light_base::{Sink, SinkFault};
 use std::io::{ErrorKind, Write};
@@ -13,7 +13,10 @@ pub struct StdSink<W> {
 }
 
 impl<W> StdSink<W> {
-    pub fn new(writer: W) -> Self {
+    /// A sink over this writer, with no fault so far.
+    pub fn new(writer: W) -> Self
+        ensures { result.faults ≡ 0 }
+    {
         StdSink { writer, faults: 0 }
     }
 }
