@@ -1,5 +1,5 @@
 -- The first fault of a program, found instruction after instruction.
-use Rattle.std.proofs.Common.{◌≡◌, ℕ, ◌+◌, ◌<◌, ◌≤◌, List, [], ◌∷◌, length, get_or, drop, Option, Some, None, refl, ap, ◌∙◌}
+use Rattle.std.proofs.Common.{◌≡◌, ℕ, ◌+◌, ◌<◌, ◌≤◌, List, length, get_or, drop, Some, None, refl, ap, ◌∙◌}
 use Rattle.std.proofs.lemmas.List.{drop_more, drop_all}
 use Rattle.machine.specs.Programs.{Instr}
 use Rattle.machine.specs.Faults.{ImageKind, ImageFault, instr_fault, code_fault, codes_fault}

@@ -1,14 +1,14 @@
 -- A program has no fault exactly where it keeps the rules.
-use Rattle.std.proofs.Common.{◌≡◌, ◌↔◌, ℕ, zero, suc, ◌+◌, ◌<◌, ◌≤◌, Bool, true, false, not, cond, ltb, ◌&&◌, List, [], ◌∷◌, length, map, get_or, All, Option, Some, None, refl, sym, ap, subst, ◌∙◌, arith}
+use Rattle.std.proofs.Common.{◌≡◌, ℕ, ◌+◌, ◌<◌, ◌≤◌, Bool, true, false, not, cond, ltb, ◌&&◌, List, [], ◌∷◌, length, get_or, All, Option, Some, None, refl, sym, ap, ◌∙◌, arith}
 use Rattle.std.specs.Global.{Vec}
 use Rattle.std.specs.Option.{option_or}
 use Rattle.std.specs.List.{AllByRecursion, list_all}
 use Rattle.std.proofs.lemmas.Bool.{and_parts, and_from, not-true, not_from_false, ltb-true, ltb-false, lt-ltb, le-ltb}
 use Rattle.std.proofs.lemmas.List.{get_or-map, length-map}
-use Rattle.std.proofs.lemmas.List.Elements.{All-from_recursion, recursion_from_All, All-get_or}
+use Rattle.std.proofs.lemmas.List.Elements.{All-from_recursion, recursion_from_All}
 use Rattle.std.proofs.lemmas.List.Sums.{AllPass-from_list_all, list_all-from_AllPass}
 use Rattle.machine.specs.Programs.{Instr, ProgramValue, IsInstr, IsCode, IsProgram, code_lists, has_registers, has_idle_zero, has_target}
-use Rattle.machine.specs.Faults.{ImageKind, ImageFault, whole_fault, instr_fault, fault_at, code_fault, codes_fault, program_fault, is_count, is_short_code, checked}
+use Rattle.machine.specs.Faults.{ImageKind, ImageFault, whole_fault, instr_fault, fault_at, code_fault, codes_fault, program_fault, is_count, is_short_code}
 use Rattle.machine.specs.declared.image_fault.ImageKind.TheVariants as kind
 
 -- ---- counts
@@ -71,7 +71,7 @@ no_fault_both : (first rest : Option ImageFault) → option_or first rest ≡ No
 no_fault_both None rest e = (refl, e)
 no_fault_both (Some fault) rest e = absurd cc
 
-abbrev KeepsRules : List Instr → Type 0
+abbrev pub KeepsRules : List Instr → Type 0
 KeepsRules code = AllByRecursion (IsInstr (length code)) code
 
 codes_keep : (thread : ℕ) (codes : List (List Instr)) → codes_fault thread codes ≡ None → AllByRecursion KeepsRules codes
@@ -93,10 +93,10 @@ pub codes_are : (codes : List (List Instr)) → list_all is_short_code codes ≡
 codes_are codes short rules =
     λ k d lt. record { short = ltb-false 4096 _ (not-true _ (AllPass-from_list_all is_short_code codes short k d lt)); each = All-from_recursion (IsInstr (length (get_or codes k d))) (get_or codes k d) (All-from_recursion KeepsRules codes rules k d lt) }
 
-codes_rules : (codes : List (List Instr)) → All IsCode codes → AllByRecursion KeepsRules codes
+pub codes_rules : (codes : List (List Instr)) → All IsCode codes → AllByRecursion KeepsRules codes
 codes_rules codes rules = recursion_from_All KeepsRules codes (λ k d lt. recursion_from_All (IsInstr (length (get_or codes k d))) (get_or codes k d) (rules k d lt).each)
 
-codes_short : (codes : List (List Instr)) → All IsCode codes → list_all is_short_code codes ≡ true
+pub codes_short : (codes : List (List Instr)) → All IsCode codes → list_all is_short_code codes ≡ true
 codes_short codes rules = list_all-from_AllPass is_short_code codes (λ k d lt. not_from_false _ (le-ltb 4096 _ (rules k d lt).short))
 
 two_pass : (a b : Bool) (rest : Option ImageFault) → cond (not a) (Some (whole_fault kind.Counts)) (cond (not b) (Some (whole_fault kind.Counts)) rest) ≡ None → (a ≡ true) × (b ≡ true) × (rest ≡ None)

@@ -1,5 +1,5 @@
 -- The faults of programs and of images, and the first one that a program has.
-use Rattle.std.specs.Prelude.{◌≡◌, ℕ, ◌+◌, Bool, true, false, ◌&&◌, not, nat_lt, List, [], ◌∷◌, length, if◌then◌else◌, Option, None, Some, Result, Ok, Err}
+use Rattle.std.specs.Prelude.{ℕ, ◌+◌, Bool, ◌&&◌, not, nat_lt, List, [], ◌∷◌, length, if◌then◌else◌, Option, None, Some, Result, Ok, Err}
 use Rattle.std.specs.Option.{option_or}
 use Rattle.std.specs.List.{list_all}
 pub use Rattle.machine.specs.declared.image_fault.ImageFault.{ImageFault}
@@ -7,6 +7,7 @@ pub use Rattle.machine.specs.declared.image_fault.ImageKind.{ImageKind}
 use Rattle.machine.specs.declared.image_fault.ImageKind.TheVariants as kind
 use Rattle.machine.specs.Programs.{Instr, ProgramValue, has_registers, has_idle_zero, has_target}
 
+-- the number of a kind
 abbrev pub number_of_kind : ImageKind → ℕ
 number_of_kind kind.Short = 1
 number_of_kind kind.Magic = 2
@@ -49,20 +50,29 @@ codes_fault thread (code ∷ codes) = option_or (code_fault (length code) thread
 abbrev pub is_count : ℕ → ℕ → Bool
 is_count most n = nat_lt 0 n && not (nat_lt most n)
 
+-- 1 to 15 threads and 1 to 4,096 words
+abbrev pub are_counts : ℕ → ℕ → Bool
+are_counts threads words = is_count 15 threads && is_count 4096 words
+
+-- the length of a code that is short enough
+abbrev pub is_short_length : ℕ → Bool
+is_short_length len = not (nat_lt 4096 len)
+
 abbrev pub is_short_code : List Instr → Bool
-is_short_code code = not (nat_lt 4096 (length code))
+is_short_code code = is_short_length (length code)
 
 -- what a program breaks first: the counts of its threads and words, the length of a code, a rule of an instruction
 unfoldable pub program_fault : ProgramValue → Option ImageFault
 program_fault p =
-    if not (is_count 15 (length p.threads) && is_count 4096 (length p.words)) then Some (whole_fault kind.Counts)
+    if not (are_counts (length p.threads) (length p.words)) then Some (whole_fault kind.Counts)
     else if not (list_all is_short_code p.threads) then Some (whole_fault kind.Counts)
     else codes_fault 0 p.threads
 
--- the program, or what it breaks first
+-- the program, or its fault
 abbrev pub ok_unless : Option ImageFault → ProgramValue → Result ProgramValue ImageFault
 ok_unless None p = Ok p
 ok_unless (Some fault) p = Err fault
 
+-- a program where it keeps the rules, else its first fault
 abbrev pub checked : ProgramValue → Result ProgramValue ImageFault
 checked p = ok_unless (program_fault p) p

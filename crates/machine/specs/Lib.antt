@@ -1,4 +1,6 @@
 pub mod Programs
 pub mod Faults
+pub mod Images
+pub mod ImageReading
 pub mod Cores
 pub mod Runs

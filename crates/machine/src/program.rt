@@ -2,7 +2,7 @@
 ghost use Rattle.std.specs.Prelude.{◌≡◌, ◌↔◌, ◌<◌, ◌≤◌, Some, true, length, map, SomeIff, IsOk};
 ghost use Rattle.std.specs.List.{list_all};
 ghost use Rattle.machine.specs.Programs.{AreLimits, IsProgram, code_lists, code_of, code_of_op, op_of, uses_a, uses_b, uses_c, uses_imm, jumps, has_registers, has_idle_zero, has_target};
-ghost use Rattle.machine.specs.Faults.{instr_fault, code_fault, codes_fault, program_fault, checked, is_count, is_short_code};
+ghost use Rattle.machine.specs.Faults.{instr_fault, code_fault, codes_fault, program_fault, checked, are_counts, is_short_code};
 
 use crate::image_fault::{ImageFault, ImageKind};
 use std::marker::Model;
@@ -271,17 +271,18 @@ fn are_short(threads: &[Vec<Instr>]) -> bool
     true
 }
 
-fn is_count(most: usize, n: usize) -> bool
-    ensures { result ≡ is_count most n }
+// Whether there are 1 to 15 threads and 1 to 4,096 words.
+pub(crate) fn are_counts(threads: usize, words: usize) -> bool
+    ensures { result ≡ are_counts threads words }
 {
-    0 < n && n <= most
+    0 < threads && threads <= 15 && 0 < words && words <= 4096
 }
 
 #[tactic(auto, unfolding(crate::specs::Faults::program_fault))]
 fn fault_of(words: &[u32], threads: &[Vec<Instr>]) -> Option<ImageFault>
     ensures { result ≡ program_fault (record { words = words.now; threads = code_lists threads.now }) }
 {
-    if !(is_count(15, threads.len()) && is_count(4096, words.len())) || !are_short(threads) {
+    if !are_counts(threads.len(), words.len()) || !are_short(threads) {
         return Some(ImageFault::whole(ImageKind::Counts));
     }
     codes_fault(threads)

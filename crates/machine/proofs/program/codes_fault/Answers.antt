@@ -1,8 +1,8 @@
-use Rattle.std.proofs.Common.{◌≡◌, ◌<◌, length, get_or, sym, ◌∙◌, ap, Option, Some, None, [], arith}
+use Rattle.std.proofs.Common.{◌≡◌, ◌<◌, length, get_or, sym, ◌∙◌, Some, None, [], arith}
 use Rattle.std.specs.Global.{Vec}
 use Rattle.std.proofs.lemmas.List.{length-map}
 use Rattle.machine.specs.Programs.{Instr, code_lists}
-use Rattle.machine.specs.Faults.{ImageFault, code_fault}
+use Rattle.machine.specs.Faults.{code_fault}
 use Rattle.machine.proofs.Faults.{codes_fault_stops, codes_fault_goes_on, codes_fault_ends}
 use Rattle.machine.proofs.Rules.{short_at, code_at}
 use Rattle.machine.proofs.program.codes_fault.Goals as goal

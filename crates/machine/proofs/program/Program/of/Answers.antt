@@ -1,5 +1,5 @@
 use Rattle.std.proofs.Common.{◌≡◌, sym, ◌∙◌, Some, None, refl}
-use Rattle.machine.specs.Programs.{IsProgram, code_lists}
+use Rattle.machine.specs.Programs.{code_lists}
 use Rattle.machine.specs.Faults.{program_fault}
 use Rattle.machine.proofs.Rules.{program_keeps, program_fault_none}
 use Rattle.machine.proofs.program.Program.of.Goals as goal
