@@ -1,5 +1,5 @@
 -- An instruction that a text says keeps the rules of instructions.
-use Rattle.std.proofs.Common.{◌≡◌, ℕ, ◌-◌, ◌<◌, ◌≤◌, Bool, true, false, cond, not, ◌&&◌, ◌||◌, eqb, ltb, List, [], ◌∷◌, Option, None, Some, option_map, option_and_then, Result, Ok, Err, refl, sym, ap, subst, arith}
+use Rattle.std.proofs.Common.{◌≡◌, ℕ, ◌-◌, ◌<◌, ◌≤◌, Bool, true, false, cond, not, ◌&&◌, ◌||◌, eqb, ltb, leb, List, [], ◌∷◌, Option, None, Some, option_map, option_and_then, Result, Ok, Err, refl, sym, ap, subst, arith}
 use Rattle.std.proofs.lemmas.Bool.{and_parts, and_from, ltb-false, leb-true, lt-ltb, le-ltb}
 use Rattle.machine.specs.declared.program.Instr.{Instr}
 use Rattle.machine.specs.declared.program.Op.{Op}
@@ -42,12 +42,12 @@ register_below [] r h = absurd (cc)
 register_below (a ∷ []) r h = absurd (cc)
 register_below (a ∷ d ∷ []) r h =
     let s = if_some (is_register_letter a && is_between 48 57 d) (d - 48) r h in
-    let t = and_parts _ _ (and_parts _ _ s.0).1 in
+    let t = and_parts (leb 48 d) (leb d 57) (and_parts (is_register_letter a) (is_between 48 57 d) s.0).1 in
     let high : d ≤ 57 = leb-true d 57 t.1 in
     omega (arith, s.1)
 register_below (a ∷ b ∷ d ∷ []) r h =
     let s = if_some (is_register_letter a && eqb b 49 && is_between 48 53 d) (d - 38) r h in
-    let t = and_parts _ _ (and_parts _ _ s.0).1 in
+    let t = and_parts (leb 48 d) (leb d 53) (and_parts (is_register_letter a && eqb b 49) (is_between 48 53 d) s.0).1 in
     let high : d ≤ 53 = leb-true d 53 t.1 in
     omega (arith, s.1)
 register_below (a ∷ b ∷ d ∷ e ∷ more) r h = absurd (cc)
