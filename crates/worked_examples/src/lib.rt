@@ -15,3 +15,6 @@ pub fn computed_transcripts()
     ensures one_entry { EntriesAreSpent }
     ensures addresses { AddressesWrap }
 {}
+
+#[cfg(test)]
+mod tests;
