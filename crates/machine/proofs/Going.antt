@@ -7,7 +7,7 @@ use Rattle.machine.specs.declared.program.Instr.{Instr}
 use Rattle.machine.specs.Programs.{ProgramValue, LimitsValue, AreLimits, IsCode, IsProgram, code_of}
 use Rattle.machine.specs.Cores.{State, run_on, settled}
 use Rattle.machine.proofs.Local.{run_on-entries}
-use Rattle.machine.proofs.Rests.{settled-some, settled-none}
+use Rattle.machine.proofs.Rests.{settled-some}
 
 -- nothing is pending
 pub none_from : (o : Option Want) → ((w : Want) → o ≡ Some w → ⊥) → o ≡ None
@@ -33,15 +33,14 @@ words_few p words rules e = let P : List ℕ → Type 0 = λ w. length w ≤ 409
 pub limits_rules : (limits : LimitsValue) (steps instr : ℕ) → AreLimits limits → steps ≡ limits.steps → instr ≡ limits.instr → AreLimits (record { steps = steps; instr = instr; entries = 0 })
 limits_rules limits steps instr rules s i = let a = rules.steps in let b = rules.instr in record { steps = omega arith; instr = omega arith; entries = omega arith }
 
--- the run settles the state
-pub run_on-settled : (p : ProgramValue) (limits : LimitsValue) (full : Bool) (s now : State) → s ≡ now → s.pending ≡ None → (thread : ℕ) → thread ≡ s.thread →
+-- the run of a core is that of its program
+pub run_on-of : (p : ProgramValue) (limits : LimitsValue) (full : Bool) (s now : State) → s ≡ now → (thread : ℕ) → thread ≡ s.thread →
     (code : List Instr) → code ≡ code_of p thread → (words : List ℕ) → words ≡ p.words → (steps instr : ℕ) → steps ≡ limits.steps → instr ≡ limits.instr →
-    run_on code (length words) (record { steps = steps; instr = instr; entries = 0 }) full s ≡ settled p limits full now
-run_on-settled p limits full s now same none thread t code c words w steps instr n i =
+    run_on code (length words) (record { steps = steps; instr = instr; entries = 0 }) full s ≡ run_on (code_of p now.thread) (length p.words) limits full now
+run_on-of p limits full s now same thread t code c words w steps instr n i =
     ap (λ (k : List Instr). run_on k (length words) (record { steps = steps; instr = instr; entries = 0 }) full s) (c ∙ ap (code_of p) t) ∙
     ap (λ (k : List ℕ). run_on (code_of p s.thread) (length k) (record { steps = steps; instr = instr; entries = 0 }) full s) w ∙
     ap (λ (k : ℕ). run_on (code_of p s.thread) (length p.words) (record { steps = k; instr = instr; entries = 0 }) full s) n ∙
     ap (λ (k : ℕ). run_on (code_of p s.thread) (length p.words) (record { steps = limits.steps; instr = k; entries = 0 }) full s) i ∙
     run_on-entries (code_of p s.thread) (length p.words) limits 0 full s ∙
-    sym (settled-none p limits full s none) ∙
-    ap (λ (k : State). settled p limits full k) same
+    ap (λ (k : State). run_on (code_of p k.thread) (length p.words) limits full k) same

@@ -1,11 +1,11 @@
 -- Operations and instructions: what is read is spelled so, and what is spelled so is read.
-use Rattle.std.proofs.Common.{◌≡◌, ◌⊎◌, ℕ, zero, suc, ◌+◌, ◌*◌, ◌^◌, ◌<◌, ◌≤◌, Bool, true, false, cond, eqb, List, [], ◌∷◌, ◌++◌, length, take, drop, get_or, sum, map, Option, Some, None, Result, Ok, Err, refl, sym, ap, subst, ◌∙◌, append_assoc, arith, inl, inr}
-use Rattle.std.specs.List.{flat_map, AllByRecursion}
+use Rattle.std.proofs.Common.{◌≡◌, ℕ, zero, suc, ◌+◌, ◌*◌, ◌^◌, ◌<◌, ◌≤◌, List, [], ◌∷◌, ◌++◌, length, take, drop, get_or, sum, map, Option, Some, None, Result, Ok, Err, refl, sym, ap, subst, ◌∙◌, append_assoc, arith}
+use Rattle.std.specs.Prelude.{slice_get}
+use Rattle.std.specs.List.{flat_map, range_with_len, AllByRecursion}
 use Rattle.std.specs.Int.{w32, from_be_bytes, to_be_bytes}
-use Rattle.std.proofs.lemmas.Bool.{eqb-true}
 use Rattle.std.proofs.lemmas.List.{take_at, drop_at, length-append, length-drop, drop-drop}
 use Rattle.light_base.specs.Numbers.{IsBytes}
-use Rattle.machine.specs.Programs.{Instr, Op, IsInstr, op_of, code_of_op}
+use Rattle.machine.specs.Programs.{Instr, Op, IsInstr, op_of, code_of_op, every_op}
 use Rattle.machine.specs.declared.program.Op.TheVariants as op
 use Rattle.machine.specs.Faults.{ImageFault, ImageKind, instr_fault}
 use Rattle.machine.specs.Images.{instr_image, code_image}
@@ -19,32 +19,41 @@ use Rattle.machine.proofs.ImageNumbers.{IsBytes-drop, IsBytes-take, join, wide32
 pub op_of-code_of_op : (o : Op) → op_of (code_of_op o) ≡ Some o
 op_of-code_of_op op.Halt = refl
 op_of-code_of_op op.Const = refl
+op_of-code_of_op op.Mov = refl
+op_of-code_of_op op.Add = refl
+op_of-code_of_op op.Sub = refl
+op_of-code_of_op op.Mul = refl
+op_of-code_of_op op.And = refl
+op_of-code_of_op op.Or = refl
+op_of-code_of_op op.Xor = refl
+op_of-code_of_op op.Shl = refl
+op_of-code_of_op op.Shr = refl
 op_of-code_of_op op.Addi = refl
+op_of-code_of_op op.Jmp = refl
 op_of-code_of_op op.Jeq = refl
+op_of-code_of_op op.Jne = refl
+op_of-code_of_op op.Jlt = refl
 op_of-code_of_op op.Out = refl
 op_of-code_of_op op.Load = refl
 op_of-code_of_op op.Store = refl
+op_of-code_of_op op.Xchg = refl
+op_of-code_of_op op.Cas = refl
 
-chosen : (b : Bool) (o x : Op) (more : Option Op) → cond b (Some o) more ≡ Some x → ((b ≡ true) × (o ≡ x)) ⊎ (more ≡ Some x)
-chosen true o x more e = inl (refl, cc)
-chosen false o x more e = inr e
-
-code_step : (n k : ℕ) (o x : Op) (more : Option Op) → code_of_op o ≡ k → (more ≡ Some x → n ≡ code_of_op x) → cond (eqb n k) (Some o) more ≡ Some x → n ≡ code_of_op x
-code_step n k o x more is rest e =
-    elim (chosen (eqb n k) o x more e) [
-      | inl both ↦ eqb-true n k both.0 ∙ sym is ∙ ap code_of_op both.1
-      | inr other ↦ rest other
-    ]
-
-abbrev none : Option Op
-none = None
-
-no_code : (n : ℕ) (x : Op) → none ≡ Some x → n ≡ code_of_op x
-no_code n x e = absurd cc
+-- operations whose numbers count up from k: the one at place n has the number k + n
+counted : (k n : ℕ) (ops : List Op) (x : Op) → map code_of_op ops ≡ range_with_len k (length ops) → slice_get ops n ≡ Some x → code_of_op x ≡ k + n
+counted k n [] x e h = absurd cc
+counted k zero (o ∷ os) x e h =
+    let first : code_of_op o ≡ k = cc in
+    let same : o ≡ x = cc in
+    let code = ap code_of_op same in
+    omega (arith, first, code)
+counted k (suc n) (o ∷ os) x e h =
+    let rest : map code_of_op os ≡ range_with_len (k + 1) (length os) = cc in
+    let more = counted (k + 1) n os x rest h in
+    omega (arith, more)
 
 pub code_of_op-op_of : (n : ℕ) (x : Op) → op_of n ≡ Some x → n ≡ code_of_op x
-code_of_op-op_of n x =
-    code_step n 0 op.Halt x _ refl (code_step n 1 op.Const x _ refl (code_step n 11 op.Addi x _ refl (code_step n 13 op.Jeq x _ refl (code_step n 16 op.Out x _ refl (code_step n 17 op.Load x _ refl (code_step n 18 op.Store x _ refl (no_code n x)))))))
+code_of_op-op_of n x h = let e = counted 0 n every_op x refl h in omega (arith, e)
 
 -- ---- instructions
 

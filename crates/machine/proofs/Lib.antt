@@ -1,5 +1,6 @@
 pub mod Local
 pub mod Rests
+pub mod Took
 pub mod Runs
 pub mod Turning
 pub mod Keeps

@@ -9,7 +9,7 @@ use Rattle.machine.specs.declared.program.Instr.{Instr}
 use Rattle.machine.specs.declared.program.Op.{Op}
 use Rattle.machine.specs.declared.program.Op.TheVariants as op
 use Rattle.machine.specs.Programs.{LimitsValue}
-use Rattle.machine.specs.Cores.{State, is_halt, end_before, step_wanted, ended_or, comes_to, ran, instr_or_halt, waiting, waiting_or, run_local, run_on}
+use Rattle.machine.specs.Cores.{State, is_halt, end_before, step_wanted, ended_or, comes_to, ran, output_after, instr_or_halt, waiting, waiting_or, run_local, run_on}
 
 -- where neither an end nor a memory step comes, no end comes
 pub no_end : (e : Option End) (w : Option Want) → ended_or e w ≡ None → (e ≡ None) × (w ≡ None)
@@ -20,16 +20,6 @@ no_end (Some e) w h = cc
 pub passed : (b : Bool) (e : End) (rest : Option End) → cond b (Some e) rest ≡ None → (b ≡ false) × (rest ≡ None)
 passed false e rest h = (refl, h)
 passed true e rest h = cc
-
--- an operation that is neither an end nor a memory step counts as one instruction
-counted : (o : Op) (s : State) (i : Instr) → is_halt o ≡ false → step_wanted o s i ≡ None → (ran o s i).instr ≡ s.instr + 1
-counted op.Halt s i h w = cc
-counted op.Const s i h w = refl
-counted op.Addi s i h w = refl
-counted op.Jeq s i h w = refl
-counted op.Out s i h w = refl
-counted op.Load s i h w = cc
-counted op.Store s i h w = cc
 
 -- where the thread goes on
 pub record GoesOn (limits : LimitsValue) (s : State) (i : Instr) : Type 0 where
@@ -43,7 +33,7 @@ goes_on words limits full s i h =
     let e = no_end (end_before words limits full s i) (step_wanted i.op s i) h in
     let a = passed _ _ _ e.0 in
     let b = passed _ _ _ a.1 in
-    record { lives = a.0; room = leb-false _ _ b.0; counts = counted i.op s i a.0 e.1 }
+    record { lives = a.0; room = leb-false _ _ b.0; counts = refl }
 
 -- past the end of the code nothing goes on
 pub going_instr : (words : ℕ) (limits : LimitsValue) (full : Bool) (s : State) (o : Option Instr) → comes_to words limits full s o ≡ None → GoesOn limits s (instr_or_halt o)
@@ -89,25 +79,25 @@ run_on-stop code words limits full s o wanted at h =
 pub record Follows (old new : State) : Type 0 where
   pub thread : new.thread ≡ old.thread
   pub steps : new.steps ≡ old.steps
+  pub expected : new.expected ≡ old.expected
   pub output : length old.output ≤ length new.output
 
 -- kept and kept again is kept
 follows_all : {a b c : State} → Follows a b → Follows b c → Follows a c
-follows_all ab bc = record { thread = bc.thread ∙ ab.thread; steps = bc.steps ∙ ab.steps; output = let x = ab.output in let y = bc.output in omega arith }
+follows_all ab bc = record { thread = bc.thread ∙ ab.thread; steps = bc.steps ∙ ab.steps; expected = bc.expected ∙ ab.expected; output = let x = ab.output in let y = bc.output in omega arith }
+
+-- no instruction takes back what was put out
+output_longer : (o : Op) (s : State) (i : Instr) → length s.output ≤ length (output_after o s i)
+output_longer op.Out s i = omega (arith, length_push s.output (slice_index s.registers i.a))
+output_longer _ s i = omega arith
 
 -- an instruction keeps it
 pub ran-follows : (o : Op) (s : State) (i : Instr) → Follows s (ran o s i)
-ran-follows op.Halt s i = record { thread = refl; steps = refl; output = omega arith }
-ran-follows op.Const s i = record { thread = refl; steps = refl; output = omega arith }
-ran-follows op.Addi s i = record { thread = refl; steps = refl; output = omega arith }
-ran-follows op.Jeq s i = record { thread = refl; steps = refl; output = omega arith }
-ran-follows op.Out s i = record { thread = refl; steps = refl; output = omega (arith, length_push s.output (slice_index s.registers i.a)) }
-ran-follows op.Load s i = record { thread = refl; steps = refl; output = omega arith }
-ran-follows op.Store s i = record { thread = refl; steps = refl; output = omega arith }
+ran-follows o s i = record { thread = refl; steps = refl; expected = refl; output = output_longer o s i }
 
 -- so does stopping
 pub waiting-follows : (s : State) (o : Option Instr) (wanted : Want) → Follows s (waiting s o wanted)
-waiting-follows s o wanted = record { thread = refl; steps = refl; output = omega arith }
+waiting-follows s o wanted = record { thread = refl; steps = refl; expected = refl; output = omega arith }
 
 -- either of the two does
 waiting_or-follows : (s : State) (o : Option Instr) (t : Option Want) (next : State) → Follows s next → Follows s (waiting_or s o t next)
@@ -117,7 +107,7 @@ waiting_or-follows s o (Some wanted) next h = waiting-follows s o wanted
 -- so do many local instructions
 pub run_local-follows : (n : ℕ) (code : List Instr) (words : ℕ) (limits : LimitsValue) (full : Bool) (s : State) → Follows s (run_local n code words limits full s)
 unfolding run_local
-run_local-follows zero code words limits full s = record { thread = refl; steps = refl; output = omega arith }
+run_local-follows zero code words limits full s = record { thread = refl; steps = refl; expected = refl; output = omega arith }
 run_local-follows (suc n) code words limits full s =
     let i = instr_or_halt (slice_get code s.place) in
     waiting_or-follows s (slice_get code s.place) (comes_to words limits full s (slice_get code s.place)) _

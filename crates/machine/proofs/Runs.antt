@@ -1,5 +1,5 @@
 -- Threads as functions of their memory steps.
-use Rattle.std.proofs.Common.{◌≡◌, ℕ, ◌+◌, ◌<◌, ◌≤◌, Bool, true, false, List, [], ◌∷◌, ◌++◌, length, refl, sym, ◌∙◌, ap, subst, arith, append_assoc}
+use Rattle.std.proofs.Common.{◌≡◌, ℕ, ◌+◌, ◌<◌, ◌≤◌, Bool, true, false, List, [], ◌∷◌, ◌++◌, length, refl, sym, ◌∙◌, ap, subst, arith, append_assoc, append-nil}
 use Rattle.std.proofs.lemmas.List.{get_or_past}
 use Rattle.std.specs.Prelude.{Option, Some, None, IsSome}
 use Rattle.light_base.specs.declared.tag.Cell.{Cell}
@@ -10,48 +10,42 @@ use Rattle.replay_model.specs.declared.Want.{Want}
 use Rattle.replay_model.specs.declared.Want.TheVariants as want
 use Rattle.replay_model.specs.declared.End.TheVariants as end
 use Rattle.machine.specs.Programs.{ProgramValue, LimitsValue, code_of}
+use Rattle.machine.specs.declared.cores.Expected.{Expected}
 use Rattle.machine.specs.declared.program.Instr.{Instr}
-use Rattle.machine.specs.Cores.{State, first_state, settled, took, want_or, run_on}
+use Rattle.machine.specs.Cores.{State, first_state, settled, took, want_or, resumed, run_on}
 use Rattle.machine.specs.Runs.{state_from, state_after, threads_of}
 use Rattle.machine.proofs.Local.{run_on-stop}
-use Rattle.machine.proofs.Rests.{settled-settles, settled-some, settled-none}
-
--- after a memory step nothing is pending
-took-pending : (s : State) (found : Option Cell) → (took s found).pending ≡ None
-took-pending s None = refl
-took-pending s (Some cell) = refl
-
--- a memory step is counted
-took-steps : (s : State) (found : Option Cell) → (took s found).steps ≡ s.steps + 1
-took-steps s None = refl
-took-steps s (Some cell) = refl
-
--- a memory step leaves the thread
-took-thread : (s : State) (found : Option Cell) → (took s found).thread ≡ s.thread
-took-thread s None = refl
-took-thread s (Some cell) = refl
+use Rattle.machine.proofs.Rests.{MayBeTaken, IsAsked, IsBetween, run_on-settles, settled-settles, settled-some, settled-none}
+use Rattle.machine.proofs.Took.{took_takes, took_between}
 
 -- what has no code comes to its end at once
-settled-past : (p : ProgramValue) (limits : LimitsValue) (full : Bool) (s : State) → s.pending ≡ None → length p.threads ≤ s.thread → (settled p limits full s).pending ≡ Some (want.Ended end.Halted)
+settled-past : (p : ProgramValue) (limits : LimitsValue) (full : Bool) (s : State) → IsBetween p limits s → length p.threads ≤ s.thread → (settled p limits full s).pending ≡ Some (want.Ended end.Halted)
 settled-past p limits full s h past =
     let none : code_of p s.thread ≡ [] = get_or_past p.threads s.thread [] past in
     ap (λ (n : State). n.pending) (
-    settled-none p limits full s h ∙ ap (λ (code : List Instr). run_on code (length p.words) limits full s) none ∙
+    settled-none p limits full s None h.pending (h.past past) ∙ ap (λ (code : List Instr). run_on code (length p.words) limits full s) none ∙
     run_on-stop [] (length p.words) limits full s None (want.Ended end.Halted) refl refl
     )
 
+-- it has ended
+past_ended : (p : ProgramValue) (limits : LimitsValue) (full : Bool) (s : State) → IsBetween p limits s → length p.threads ≤ s.thread → (wanted : Want) → (settled p limits full s).pending ≡ Some wanted → has_ended wanted ≡ true
+past_ended p limits full s h past wanted pending =
+    let e : Some wanted ≡ Some (want.Ended end.Halted) = sym pending ∙ settled-past p limits full s h past in
+    let w : wanted ≡ want.Ended end.Halted = cc in
+    ap has_ended w
+
 -- the state after these steps: its thread, its count of steps, and what is pending
-pub record Stands (p : ProgramValue) (limits : LimitsValue) (t count : ℕ) (s : State) : Type 0 where
+pub record Stands (p : ProgramValue) (limits : LimitsValue) (full : Bool) (t count : ℕ) (s : State) : Type 0 where
   pub thread : s.thread ≡ t
   pub steps : s.steps ≡ count
   pub wanted : Want
   pub pending : s.pending ≡ Some wanted
-  pub word : has_ended wanted ≡ false → word_of wanted < length p.words
-  pub room : has_ended wanted ≡ false → count < limits.steps
+  pub step : has_ended wanted ≡ false → MayBeTaken (length p.words) limits s wanted
+  pub asked : IsAsked (length p.words) full wanted
   pub past : length p.threads ≤ t → has_ended wanted ≡ true
 
 -- so stands a settled state
-settled-stands : (p : ProgramValue) (limits : LimitsValue) (full : Bool) (s : State) → s.pending ≡ None → Stands p limits s.thread s.steps (settled p limits full s)
+settled-stands : (p : ProgramValue) (limits : LimitsValue) (full : Bool) (s : State) → IsBetween p limits s → Stands p limits full s.thread s.steps (settled p limits full s)
 settled-stands p limits full s h =
     let t = settled-settles p limits full s h in
     record {
@@ -59,39 +53,52 @@ settled-stands p limits full s h =
       steps = t.steps;
       wanted = t.wanted;
       pending = t.pending;
-      word = t.word;
-      room = t.room;
-      past = λ over.
-          let e : Some t.wanted ≡ Some (want.Ended end.Halted) = sym t.pending ∙ settled-past p limits full s h over in
-          let w : t.wanted ≡ want.Ended end.Halted = cc in
-          ap has_ended w;
+      step = t.step;
+      asked = t.asked;
+      past = λ over. past_ended p limits full s h over t.wanted t.pending;
     }
 
+-- a memory step from there leads on
+stands-between : (p : ProgramValue) (limits : LimitsValue) (full : Bool) (s : State) (cell : Option Cell) → IsBetween p limits s → IsBetween p limits (took (settled p limits full s) cell)
+stands-between p limits full s cell h =
+    let t = settled-settles p limits full s h in
+    took_between p limits full s (settled p limits full s) cell t (λ over. let e = t.thread in past_ended p limits full s h (omega arith) t.wanted t.pending)
+
 -- so stands the state after more steps
-pub state_from-stands : (p : ProgramValue) (limits : LimitsValue) (earlier : List Step) (s : State) (steps : List Step) → s.pending ≡ None →
-    Stands p limits s.thread (s.steps + length steps) (state_from p limits earlier s steps)
+state_from-stands : (p : ProgramValue) (limits : LimitsValue) (earlier : List Step) (s : State) (steps : List Step) → IsBetween p limits s →
+    Stands p limits (is_full limits.entries (earlier ++ steps)) s.thread (s.steps + length steps) (state_from p limits earlier s steps)
 state_from-stands p limits earlier s [] h =
-    let P : ℕ → Type 0 = λ n. Stands p limits s.thread n (settled p limits (is_full limits.entries earlier) s) in
-    subst P (omega arith) (settled-stands p limits (is_full limits.entries earlier) s h)
+    let P : ℕ → Type 0 = λ n. Stands p limits (is_full limits.entries (earlier ++ [])) s.thread n (settled p limits (is_full limits.entries earlier) s) in
+    let Q : List Step → Type 0 = λ l. Stands p limits (is_full limits.entries l) s.thread s.steps (settled p limits (is_full limits.entries earlier) s) in
+    subst P (omega arith) (subst Q (sym (append-nil earlier)) (settled-stands p limits (is_full limits.entries earlier) s h))
 state_from-stands p limits earlier s (step ∷ steps) h =
     let here = settled p limits (is_full limits.entries earlier) s in
+    let next = took here step.found in
     let t = settled-settles p limits (is_full limits.entries earlier) s h in
-    let e : (took here step.found).thread ≡ s.thread = took-thread here step.found ∙ t.thread in
-    let ts = took-steps here step.found in
+    let k = took_takes here step.found in
+    let e : next.thread ≡ s.thread = k.thread ∙ t.thread in
+    let ts = k.steps in
     let ss = t.steps in
-    let n : (took here step.found).steps + length steps ≡ s.steps + length (step ∷ steps) = omega arith in
-    let P : ℕ → Type 0 = λ k. Stands p limits k (s.steps + length (step ∷ steps)) (state_from p limits (earlier ++ step ∷ []) (took here step.found) steps) in
-    let Q : ℕ → Type 0 = λ k. Stands p limits (took here step.found).thread k (state_from p limits (earlier ++ step ∷ []) (took here step.found) steps) in
-    subst P e (subst Q n (state_from-stands p limits (earlier ++ step ∷ []) (took here step.found) steps (took-pending here step.found)))
+    let n : next.steps + length steps ≡ s.steps + length (step ∷ steps) = omega arith in
+    let new = state_from p limits (earlier ++ step ∷ []) next steps in
+    let full = is_full limits.entries (earlier ++ step ∷ steps) in
+    let P : ℕ → Type 0 = λ k. Stands p limits full k (s.steps + length (step ∷ steps)) new in
+    let Q : ℕ → Type 0 = λ k. Stands p limits full next.thread k new in
+    let R : List Step → Type 0 = λ l. Stands p limits (is_full limits.entries l) next.thread (next.steps + length steps) new in
+    subst P e (subst Q n (subst R (append_assoc earlier (step ∷ []) steps) (state_from-stands p limits (earlier ++ step ∷ []) next steps (stands-between p limits (is_full limits.entries earlier) s step.found h))))
+
+-- before its first step a thread has no second one left
+first_between : (p : ProgramValue) (limits : LimitsValue) (t : ℕ) → IsBetween p limits (first_state t)
+first_between p limits t = record { pending = refl; word = λ e h. absurd cc; instr = λ e h. absurd cc; past = λ over. refl }
 
 -- so stands the state after these steps
-pub state_after-stands : (p : ProgramValue) (limits : LimitsValue) (t : ℕ) (steps : List Step) → Stands p limits t (length steps) (state_after p limits t steps)
+pub state_after-stands : (p : ProgramValue) (limits : LimitsValue) (t : ℕ) (steps : List Step) → Stands p limits (is_full limits.entries steps) t (length steps) (state_after p limits t steps)
 state_after-stands p limits t steps =
-    let P : ℕ → Type 0 = λ n. Stands p limits t n (state_after p limits t steps) in
-    subst P (omega arith) (state_from-stands p limits [] (first_state t) steps refl)
+    let P : ℕ → Type 0 = λ n. Stands p limits (is_full limits.entries steps) t n (state_after p limits t steps) in
+    subst P (omega arith) (state_from-stands p limits [] (first_state t) steps (first_between p limits t))
 
 -- what is wanted is what is pending
-wanted_of : (p : ProgramValue) (limits : LimitsValue) (t : ℕ) (steps : List Step) → threads_of p limits t steps ≡ (state_after-stands p limits t steps).wanted
+pub wanted_of : (p : ProgramValue) (limits : LimitsValue) (t : ℕ) (steps : List Step) → threads_of p limits t steps ≡ (state_after-stands p limits t steps).wanted
 wanted_of p limits t steps = ap (want_or (want.Ended end.Halted)) (state_after-stands p limits t steps).pending
 
 -- no thread asks for a word that the program does not have
@@ -99,7 +106,7 @@ pub stays_within : (p : ProgramValue) (limits : LimitsValue) → StaysWithin (th
 stays_within p limits t steps h =
     let e = wanted_of p limits t steps in
     let P : Want → Type 0 = λ w. word_of w < length p.words in
-    subst P (sym e) ((state_after-stands p limits t steps).word (sym (ap has_ended e) ∙ h))
+    subst P (sym e) ((state_after-stands p limits t steps).step (sym (ap has_ended e) ∙ h)).word
 
 -- a thread that the program does not have has ended
 pub has_only : (p : ProgramValue) (limits : LimitsValue) → HasOnly (threads_of p limits) (length p.threads)
@@ -114,7 +121,7 @@ true_or false h = absurd (h refl)
 pub ends_within : (p : ProgramValue) (limits : LimitsValue) → EndsWithin (threads_of p limits) limits.steps
 ends_within p limits t steps over =
     ap has_ended (wanted_of p limits t steps) ∙
-    true_or _ (λ lives. let r = (state_after-stands p limits t steps).room lives in absurd (omega (arith, r)))
+    true_or _ (λ lives. let s = state_after-stands p limits t steps in let r = (s.step lives).steps in let n = s.steps in absurd (omega (arith, r, n)))
 
 -- a state counts the steps that led to it
 pub counts_steps : (p : ProgramValue) (limits : LimitsValue) (t : ℕ) (steps : List Step) → (state_after p limits t steps).steps ≡ length steps
@@ -143,12 +150,20 @@ some_pending : (o : Option Want) (w : Want) → o ≡ Some w → IsSome o
 some_pending None w h = cc
 some_pending (Some x) w h = refl
 
+-- local instructions end with something pending
+run_on_pending : (code : List Instr) (words : ℕ) (limits : LimitsValue) (full : Bool) (s : State) → IsSome (run_on code words limits full s).pending
+run_on_pending code words limits full s = some_pending _ _ (run_on-settles code words limits full s).pending
+
+resumed_pending : (p : ProgramValue) (limits : LimitsValue) (full : Bool) (s : State) (e : Option Expected) → IsSome (resumed p limits full s e).pending
+resumed_pending p limits full s None = run_on_pending (code_of p s.thread) (length p.words) limits full s
+resumed_pending p limits full s (Some e) = refl
+
 -- a settled state has something pending
 pub settled_pending : (p : ProgramValue) (limits : LimitsValue) (full : Bool) (s : State) → IsSome (settled p limits full s).pending
 settled_pending p limits full s = by_pending s.pending refl
   where
     by_pending : (o : Option Want) → s.pending ≡ o → IsSome (settled p limits full s).pending
-    by_pending None h = some_pending _ _ (settled-settles p limits full s h).pending
+    by_pending None h = let P : State → Type 0 = λ n. IsSome n.pending in subst P (sym (settled-none p limits full s s.expected h refl)) (resumed_pending p limits full s s.expected)
     by_pending (Some w) h = some_pending _ _ (ap (λ (n : State). n.pending) (settled-some p limits full s w h) ∙ h)
 
 -- a state with something pending stays as it is

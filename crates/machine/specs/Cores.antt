@@ -1,17 +1,19 @@
 -- One thread: its state, its local instructions, its ends, and what a memory step does to it.
-use Rattle.std.specs.Prelude.{◌≡◌, ℕ, zero, suc, ◌+◌, ◌-◌, ◌<◌, ◌≤◌, ◌^◌, ◌%◌, Bool, true, false, ◌&&◌, ◌==◌, nat_le, if◌then◌else◌, Option, None, Some, List, [], ◌∷◌, ◌++◌, length, slice_get, slice_index, slice_set, replicate}
+use Rattle.std.specs.Prelude.{◌≡◌, ℕ, zero, suc, ◌+◌, ◌-◌, ◌*◌, ◌/◌, ◌%◌, ◌^◌, ◌<◌, ◌≤◌, Bool, true, false, not, ◌&&◌, ◌==◌, nat_lt, nat_le, bit_and, bit_or, bit_xor, if◌then◌else◌, Option, None, Some, List, [], ◌∷◌, ◌++◌, length, slice_get, slice_index, slice_set, replicate}
 use Rattle.light_base.specs.declared.tag.Cell.{Cell}
+use Rattle.light_base.specs.declared.tag.Tag.{Tag}
 use Rattle.replay_model.specs.declared.Want.{Want}
 use Rattle.replay_model.specs.declared.End.{End}
-use Rattle.replay_model.specs.Steps.{has_ended}
+use Rattle.replay_model.specs.Steps.{has_ended, same_tag}
 use Rattle.replay_model.specs.declared.Want.TheVariants as want
 use Rattle.replay_model.specs.declared.End.TheVariants as end
+use Rattle.machine.specs.declared.cores.Expected.{Expected}
 use Rattle.machine.specs.declared.program.Instr.{Instr}
 use Rattle.machine.specs.declared.program.Op.{Op}
 use Rattle.machine.specs.Programs.{ProgramValue, LimitsValue, code_of}
 use Rattle.machine.specs.declared.program.Op.TheVariants as op
 
--- what a thread is and has done: pending is the memory step or end that it has come to, and doing the instruction that wants it
+-- what a thread is and has done: pending is the memory step or end that it has come to, doing the instruction that wants it, and expected, between the two steps of a compare-exchange, the word and the tag that its load saw
 pub record State : Type 0 where
   pub thread : ℕ
   pub registers : List ℕ
@@ -20,6 +22,7 @@ pub record State : Type 0 where
   pub steps : ℕ
   pub instr : ℕ
   pub doing : Instr
+  pub expected : Option Expected
   pub pending : Option Want
 
 -- how a thread ended, and what it did
@@ -38,7 +41,7 @@ halt = record { op = op.Halt; a = 0; b = 0; c = 0; imm = 0 }
 
 -- the start of a thread
 abbrev pub first_state : ℕ → State
-first_state t = record { thread = t; registers = replicate 16 0; place = 0; output = []; steps = 0; instr = 0; doing = halt; pending = None }
+first_state t = record { thread = t; registers = replicate 16 0; place = 0; output = []; steps = 0; instr = 0; doing = halt; expected = None; pending = None }
 
 abbrev pub register : State → ℕ → ℕ
 register s r = slice_index s.registers r
@@ -47,41 +50,32 @@ register s r = slice_index s.registers r
 abbrev pub address_of : State → Instr → ℕ
 address_of s i = (register s i.b + i.imm) % 2 ^ 32
 
+-- the operations that take memory steps
 abbrev pub is_memory : Op → Bool
-is_memory op.Halt = false
-is_memory op.Const = false
-is_memory op.Addi = false
-is_memory op.Jeq = false
-is_memory op.Out = false
 is_memory op.Load = true
 is_memory op.Store = true
+is_memory op.Xchg = true
+is_memory op.Cas = true
+is_memory _ = false
 
+-- those whose first memory step reads
 abbrev pub is_reading : Op → Bool
-is_reading op.Halt = false
-is_reading op.Const = false
-is_reading op.Addi = false
-is_reading op.Jeq = false
-is_reading op.Out = false
 is_reading op.Load = true
-is_reading op.Store = false
+is_reading op.Xchg = true
+is_reading op.Cas = true
+is_reading _ = false
 
 abbrev pub is_halt : Op → Bool
 is_halt op.Halt = true
-is_halt op.Const = false
-is_halt op.Addi = false
-is_halt op.Jeq = false
-is_halt op.Out = false
-is_halt op.Load = false
-is_halt op.Store = false
+is_halt _ = false
 
 abbrev pub is_out : Op → Bool
-is_out op.Halt = false
-is_out op.Const = false
-is_out op.Addi = false
-is_out op.Jeq = false
 is_out op.Out = true
-is_out op.Load = false
-is_out op.Store = false
+is_out _ = false
+
+abbrev pub is_cas : Op → Bool
+is_cas op.Cas = true
+is_cas _ = false
 
 -- the end that comes before this instruction, if one does: the ends are looked at in this order; full says that the thread's log has as many entries as it may have
 abbrev pub end_before : ℕ → LimitsValue → Bool → State → Instr → Option End
@@ -94,15 +88,13 @@ end_before words limits full s i =
     else if is_out i.op && nat_le most_outputs (length s.output) then Some end.OutputFull
     else None
 
--- the memory step that an instruction wants; a local one wants none
+-- the first memory step that an instruction wants; a local one wants none
 abbrev pub step_wanted : Op → State → Instr → Option Want
-step_wanted op.Halt s i = None
-step_wanted op.Const s i = None
-step_wanted op.Addi s i = None
-step_wanted op.Jeq s i = None
-step_wanted op.Out s i = None
 step_wanted op.Load s i = Some (want.Load (address_of s i))
 step_wanted op.Store s i = Some (want.Store (address_of s i) (register s i.a))
+step_wanted op.Xchg s i = Some (want.Swap (address_of s i) (register s i.a))
+step_wanted op.Cas s i = Some (want.Load (address_of s i))
+step_wanted _ s i = None
 
 abbrev pub ended_or : Option End → Option Want → Option Want
 ended_or None wanted = wanted
@@ -113,19 +105,47 @@ abbrev pub comes_to : ℕ → LimitsValue → Bool → State → Option Instr �
 comes_to words limits full s None = Some (want.Ended end.Halted)
 comes_to words limits full s (Some i) = ended_or (end_before words limits full s i) (step_wanted i.op s i)
 
--- a register gets a value, and the next instruction follows
-abbrev pub with_register : State → ℕ → ℕ → State
-with_register s r value = record s { registers = slice_set s.registers r value; place = s.place + 1; instr = s.instr + 1 }
+-- the value that register a becomes, where an operation computes one
+abbrev pub computed : Op → State → Instr → Option ℕ
+computed op.Const s i = Some i.imm
+computed op.Mov s i = Some (register s i.b)
+computed op.Add s i = Some ((register s i.b + register s i.c) % 2 ^ 32)
+computed op.Sub s i = Some ((register s i.b + (2 ^ 32 - register s i.c)) % 2 ^ 32)
+computed op.Mul s i = Some ((register s i.b * register s i.c) % 2 ^ 32)
+computed op.And s i = Some (bit_and (register s i.b) (register s i.c))
+computed op.Or s i = Some (bit_or (register s i.b) (register s i.c))
+computed op.Xor s i = Some (bit_xor (register s i.b) (register s i.c))
+computed op.Shl s i = Some ((register s i.b * 2 ^ (register s i.c % 32)) % 2 ^ 32)
+computed op.Shr s i = Some (register s i.b / 2 ^ (register s i.c % 32))
+computed op.Addi s i = Some ((register s i.b + i.imm) % 2 ^ 32)
+computed _ s i = None
+
+-- whether the operation is a jump that is taken
+abbrev pub is_taken : Op → State → Instr → Bool
+is_taken op.Jmp s i = true
+is_taken op.Jeq s i = register s i.a == register s i.b
+is_taken op.Jne s i = not (register s i.a == register s i.b)
+is_taken op.Jlt s i = nat_lt (register s i.a) (register s i.b)
+is_taken _ s i = false
+
+-- the output with what the operation puts out
+abbrev pub output_after : Op → State → Instr → List ℕ
+output_after op.Out s i = s.output ++ register s i.a ∷ []
+output_after _ s i = s.output
+
+-- the registers with a value for register r, if there is one
+abbrev pub registers_with : List ℕ → ℕ → Option ℕ → List ℕ
+registers_with registers r None = registers
+registers_with registers r (Some value) = slice_set registers r value
 
 -- what a local instruction does
 abbrev pub ran : Op → State → Instr → State
-ran op.Halt s i = s
-ran op.Const s i = with_register s i.a i.imm
-ran op.Addi s i = with_register s i.a ((register s i.b + i.imm) % 2 ^ 32)
-ran op.Jeq s i = record s { place = if register s i.a == register s i.b then i.imm else s.place + 1; instr = s.instr + 1 }
-ran op.Out s i = record s { output = s.output ++ register s i.a ∷ []; place = s.place + 1; instr = s.instr + 1 }
-ran op.Load s i = s
-ran op.Store s i = s
+ran o s i = record s {
+  registers = registers_with s.registers i.a (computed o s i);
+  place = if is_taken o s i then i.imm else s.place + 1;
+  output = output_after o s i;
+  instr = s.instr + 1;
+}
 
 abbrev pub instr_or_halt : Option Instr → Instr
 instr_or_halt None = halt
@@ -156,18 +176,21 @@ abbrev pub if_none : Option Want → State → State → State
 if_none None s next = next
 if_none (Some wanted) s next = s
 
+-- what the second step of a compare-exchange is: the conditional write, or the end that comes before it
+abbrev pub second_wanted : LimitsValue → Bool → State → Expected → Want
+second_wanted limits full s e =
+    if nat_le limits.steps s.steps then want.Ended end.StepsSpent
+    else if full then want.Ended end.EntriesFull
+    else want.Cond e.word e.tag (register s s.doing.c)
+
+-- the thread goes on: within a compare-exchange to its second step, and else by its local instructions
+abbrev pub resumed : ProgramValue → LimitsValue → Bool → State → Option Expected → State
+resumed p limits full s (Some e) = record s { pending = Some (second_wanted limits full s e) }
+resumed p limits full s None = run_on (code_of p s.thread) (length p.words) limits full s
+
 -- the next memory step or end of the thread is pending
 unfoldable pub settled : ProgramValue → LimitsValue → Bool → State → State
-settled p limits full s = if_none s.pending s (run_on (code_of p s.thread) (length p.words) limits full s)
-
--- the pending memory step was taken: its instruction is done
-abbrev pub step_done : State → State
-step_done s = record s { place = s.place + 1; steps = s.steps + 1; instr = s.instr + 1; pending = None }
-
--- the state after the pending memory step, which found this cell, or none where it reads nothing
-abbrev pub took : State → Option Cell → State
-took s None = step_done s
-took s (Some cell) = step_done (record s { registers = slice_set s.registers s.doing.a cell.value })
+settled p limits full s = if_none s.pending s (resumed p limits full s s.expected)
 
 -- what is pending
 abbrev pub want_or : Want → Option Want → Want
@@ -176,6 +199,43 @@ want_or w (Some wanted) = wanted
 
 abbrev pub pending_want : State → Want
 pending_want s = want_or (want.Ended end.Halted) s.pending
+
+-- the pending memory step was taken, and with it its instruction is done
+abbrev pub step_done : State → State
+step_done s = record s { place = s.place + 1; steps = s.steps + 1; instr = s.instr + 1; expected = None; pending = None }
+
+-- register r becomes this value
+abbrev pub with_register : State → ℕ → ℕ → State
+with_register s r value = record s { registers = slice_set s.registers r value }
+
+-- register 15 tells how a compare-exchange went
+abbrev pub told : State → ℕ → State
+told s how = with_register s 15 how
+
+-- register a becomes the value found
+abbrev pub given : State → Cell → State
+given s cell = with_register s s.doing.a cell.value
+
+-- the first step of a compare-exchange: another value than that of register a ends the instruction; this value leaves its second step to be taken
+abbrev pub compared : State → ℕ → Cell → State
+compared s word cell =
+    if cell.value == register s s.doing.a then record s { steps = s.steps + 1; expected = Some (record { word = word; tag = cell.tag }); pending = None }
+    else step_done (told (given s cell) 0)
+
+-- its second step: it wins where the tag that was seen still stands there
+abbrev pub exchanged : State → Tag → Cell → State
+exchanged s seen cell = if same_tag cell.tag seen then step_done (told s 1) else step_done (told (given s cell) 2)
+
+-- the state after the pending step has found this cell
+abbrev pub found : State → Want → Cell → State
+found s (want.Load word) cell = if is_cas s.doing.op then compared s word cell else step_done (given s cell)
+found s (want.Cond word seen value) cell = exchanged s seen cell
+found s _ cell = step_done (given s cell)
+
+-- the state after the pending memory step, which found this cell, or none where it reads nothing
+abbrev pub took : State → Option Cell → State
+took s None = step_done s
+took s (Some cell) = found s (pending_want s) cell
 
 -- whether the step only writes
 abbrev pub is_store : Want → Bool
@@ -200,10 +260,15 @@ end_or_halted (Some e) = e
 abbrev pub report_of : State → Report
 report_of s = record { end = end_or_halted (end_of (pending_want s)); steps = s.steps; instr = s.instr; output = s.output }
 
--- a pending memory step leaves room for itself in the counts and in the code
+-- a pending memory step leaves room for itself in the counts and in the code, and its instruction names registers
 abbrev pub HasRoom : Option Want → State → Type 0
 HasRoom None s = Unit {0}
-HasRoom (Some wanted) s = has_ended wanted ≡ false → (s.steps < 268435455) × (s.instr < 1073741824) × (s.place < 4096) × (s.doing.a < 16)
+HasRoom (Some wanted) s = has_ended wanted ≡ false → (s.steps < 268435455) × (s.instr < 1073741824) × (s.place < 4096) × (s.doing.a < 16) × (s.doing.c < 16)
+
+-- so does a compare-exchange whose second step is left
+abbrev pub HasRest : Option Expected → State → Type 0
+HasRest None s = Unit {0}
+HasRest (Some e) s = (s.instr < 1073741824) × (s.place < 4096) × (s.doing.a < 16) × (s.doing.c < 16)
 
 -- what holds of every state that a thread comes to
 pub record IsState (s : State) : Type 0 where
@@ -214,3 +279,4 @@ pub record IsState (s : State) : Type 0 where
   pub steps : s.steps ≤ 268435455
   pub instr : s.instr ≤ 1073741824
   pub room : HasRoom s.pending s
+  pub rest : HasRest s.expected s

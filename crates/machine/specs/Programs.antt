@@ -1,5 +1,5 @@
 -- Programs, and the rules that they keep.
-use Rattle.std.specs.Prelude.{◌≡◌, ℕ, ◌≤◌, Bool, true, false, ◌&&◌, ◌||◌, ◌==◌, not, nat_lt, if◌then◌else◌, Option, Some, None, List, [], length, slice_index_or, map, All}
+use Rattle.std.specs.Prelude.{◌≡◌, ℕ, ◌≤◌, Bool, true, false, ◌&&◌, ◌||◌, ◌==◌, not, nat_lt, Option, List, [], ◌∷◌, length, slice_get, slice_index_or, map, All}
 use Rattle.std.specs.Global.{Vec}
 pub use Rattle.replay_model.specs.Logs.{Limits}
 pub use Rattle.machine.specs.declared.program.Instr.{Instr}
@@ -24,70 +24,76 @@ pub record AreLimits (limits : LimitsValue) : Type 0 where
 abbrev pub code_of_op : Op → ℕ
 code_of_op op.Halt = 0
 code_of_op op.Const = 1
+code_of_op op.Mov = 2
+code_of_op op.Add = 3
+code_of_op op.Sub = 4
+code_of_op op.Mul = 5
+code_of_op op.And = 6
+code_of_op op.Or = 7
+code_of_op op.Xor = 8
+code_of_op op.Shl = 9
+code_of_op op.Shr = 10
 code_of_op op.Addi = 11
+code_of_op op.Jmp = 12
 code_of_op op.Jeq = 13
+code_of_op op.Jne = 14
+code_of_op op.Jlt = 15
 code_of_op op.Out = 16
 code_of_op op.Load = 17
 code_of_op op.Store = 18
+code_of_op op.Xchg = 19
+code_of_op op.Cas = 20
+
+-- every operation, in the order of their numbers
+abbrev pub every_op : List Op
+every_op =
+    op.Halt ∷ op.Const ∷ op.Mov ∷ op.Add ∷ op.Sub ∷ op.Mul ∷ op.And ∷ op.Or ∷ op.Xor ∷ op.Shl ∷ op.Shr ∷ op.Addi ∷ op.Jmp ∷ op.Jeq ∷ op.Jne ∷ op.Jlt ∷ op.Out ∷ op.Load ∷ op.Store ∷ op.Xchg ∷ op.Cas ∷ []
 
 -- the operation with this number, if there is one
 abbrev pub op_of : ℕ → Option Op
-op_of n =
-    if n == 0 then Some op.Halt
-    else if n == 1 then Some op.Const
-    else if n == 11 then Some op.Addi
-    else if n == 13 then Some op.Jeq
-    else if n == 16 then Some op.Out
-    else if n == 17 then Some op.Load
-    else if n == 18 then Some op.Store
-    else None
+op_of n = slice_get every_op n
 
 -- the operations that use field a
 abbrev pub uses_a : Op → Bool
 uses_a op.Halt = false
-uses_a op.Const = true
-uses_a op.Addi = true
-uses_a op.Jeq = true
-uses_a op.Out = true
-uses_a op.Load = true
-uses_a op.Store = true
+uses_a op.Jmp = false
+uses_a _ = true
 
 abbrev pub uses_b : Op → Bool
 uses_b op.Halt = false
 uses_b op.Const = false
-uses_b op.Addi = true
-uses_b op.Jeq = true
+uses_b op.Jmp = false
 uses_b op.Out = false
-uses_b op.Load = true
-uses_b op.Store = true
+uses_b _ = true
 
 abbrev pub uses_c : Op → Bool
-uses_c op.Halt = false
-uses_c op.Const = false
-uses_c op.Addi = false
-uses_c op.Jeq = false
-uses_c op.Out = false
-uses_c op.Load = false
-uses_c op.Store = false
-
-abbrev pub uses_imm : Op → Bool
-uses_imm op.Halt = false
-uses_imm op.Const = true
-uses_imm op.Addi = true
-uses_imm op.Jeq = true
-uses_imm op.Out = false
-uses_imm op.Load = true
-uses_imm op.Store = true
+uses_c op.Add = true
+uses_c op.Sub = true
+uses_c op.Mul = true
+uses_c op.And = true
+uses_c op.Or = true
+uses_c op.Xor = true
+uses_c op.Shl = true
+uses_c op.Shr = true
+uses_c op.Cas = true
+uses_c _ = false
 
 -- the operations whose imm is a place in the code
 abbrev pub jumps : Op → Bool
-jumps op.Halt = false
-jumps op.Const = false
-jumps op.Addi = false
+jumps op.Jmp = true
 jumps op.Jeq = true
-jumps op.Out = false
-jumps op.Load = false
-jumps op.Store = false
+jumps op.Jne = true
+jumps op.Jlt = true
+jumps _ = false
+
+abbrev pub uses_imm : Op → Bool
+uses_imm op.Const = true
+uses_imm op.Addi = true
+uses_imm op.Load = true
+uses_imm op.Store = true
+uses_imm op.Xchg = true
+uses_imm op.Cas = true
+uses_imm o = jumps o
 
 -- a field that is used has a register's number
 abbrev pub is_register : Bool → ℕ → Bool

@@ -1,5 +1,5 @@
 -- What one instruction does, apart from what it leaves alone.
-use Rattle.std.specs.Prelude.{◌≡◌, ℕ, ◌+◌, Bool, Some, None, List}
+use Rattle.std.specs.Prelude.{◌≡◌, ℕ, ◌+◌, ◌<◌, Bool, Some, None, List}
 use Rattle.machine.specs.declared.program.Instr.{Instr}
 use Rattle.machine.specs.declared.cores.Course.{Course}
 use Rattle.machine.specs.declared.cores.Rest.{Rest}
@@ -19,6 +19,12 @@ moved s registers place output steps instr = record s { registers = registers; p
 -- the same, stopped at a place with something pending
 abbrev pub rested : State → List ℕ → List ℕ → ℕ → Rest → State
 rested s registers output steps rest = record s { registers = registers; place = rest.place; output = output; steps = steps; instr = rest.instr; doing = rest.doing; pending = Some rest.wanted }
+
+-- each field is the number of a register
+pub record NamesRegisters (i : Instr) : Type 0 where
+  pub a : i.a < 16
+  pub b : i.b < 16
+  pub c : i.c < 16
 
 -- the thread stops at an instruction, or has run it and gone to the next place
 abbrev pub Turns : ℕ → LimitsValue → Bool → Instr → State → Turn → List ℕ → List ℕ → Type 0

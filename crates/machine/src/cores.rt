@@ -1,12 +1,12 @@
 // One thread of a program: its registers and its place, and what it wants of the memory next.
-ghost use Rattle.std.specs.Prelude.{◌≡◌, ℕ, ◌+◌, ◌<◌, ◌≤◌, true, false, Some, None, List, length, take, IfOk, OnErr, IsSome, IsSomeAnd, option_and_then};
+ghost use Rattle.std.specs.Prelude.{◌≡◌, ℕ, ◌+◌, ◌<◌, ◌≤◌, true, false, if◌then◌else◌, Some, None, List, length, take, IfOk, OnErr, IsSome, IsSomeAnd, option_and_then};
 ghost use Rattle.replay_model.specs.Steps.{reads, has_ended};
-ghost use Rattle.machine.specs.Programs.{IsCode, IsInstr, has_registers};
-ghost use Rattle.machine.specs.Cores.{State, first_state, is_memory, comes_to, run_on, settled, step_done, took, end_of, report_of, is_store};
-ghost use Rattle.machine.specs.Turns.{bounds_of, moved, rested, Turns};
+ghost use Rattle.machine.specs.Programs.{IsCode, code_of};
+ghost use Rattle.machine.specs.Cores.{State, first_state, is_memory, is_taken, comes_to, run_on, second_wanted, settled, with_register, told, compared, exchanged, step_done, took, end_of, report_of, is_store};
+ghost use Rattle.machine.specs.Turns.{bounds_of, moved, rested, NamesRegisters, Turns};
 
 use crate::program::{Instr, Limits, Op, Program};
-use light_base::{Cell, Memory};
+use light_base::{Cell, Memory, Tag};
 use replay_model::{End, Want};
 use std::alloc::Global;
 use std::marker::Model;
@@ -40,6 +40,13 @@ impl Model for RunReport {
     ghost view = { λ r. record { end = r.end; steps = r.steps; instr = r.instr; output = r.output.items } };
 }
 
+/// What the load of a compare-exchange saw, and its second step expects to find again.
+#[derive(Clone, Copy, Debug)]
+pub(crate) struct Expected {
+    word: u16,
+    tag: Tag,
+}
+
 /// The state of one thread.
 #[derive(Debug, Drop)]
 pub struct Core {
@@ -50,6 +57,7 @@ pub struct Core {
     steps: u32,
     instr: u32,
     doing: Instr,
+    expected: Option<Expected>,
     pending: Option<Want>,
 }
 
@@ -58,9 +66,9 @@ impl Model for Core {
 
     ghost Value = { State };
 
-    ghost view = { λ c. record { thread = c.thread; registers = c.registers; place = c.place; output = c.output.items; steps = c.steps; instr = c.instr; doing = c.doing; pending = c.pending } };
+    ghost view = { λ c. record { thread = c.thread; registers = c.registers; place = c.place; output = c.output.items; steps = c.steps; instr = c.instr; doing = c.doing; expected = c.expected; pending = c.pending } };
 
-    ghost invariant = { λ c. IsState (record { thread = c.thread; registers = c.registers; place = c.place; output = c.output.items; steps = c.steps; instr = c.instr; doing = c.doing; pending = c.pending }) };
+    ghost invariant = { λ c. IsState (record { thread = c.thread; registers = c.registers; place = c.place; output = c.output.items; steps = c.steps; instr = c.instr; doing = c.doing; expected = c.expected; pending = c.pending }) };
 }
 
 /// What came of an instruction.
@@ -92,11 +100,28 @@ struct Course<'a> {
     steps: u32,
 }
 
+// Where a jump leads: to imm where it is taken, and else to the next place.
+fn jump(registers: &[u32; 16], place: usize, i: Instr) -> usize
+    requires place { place < 4096 }
+    requires fields { NamesRegisters i }
+    ensures { (s : State) → s.registers ≡ registers.now → s.place ≡ place → result ≡ (if is_taken i.op s i then i.imm else s.place + 1) }
+{
+    let (x, y) = (registers[usize::from(i.a)], registers[usize::from(i.b)]);
+    let taken = match i.op {
+        Op::Jmp => true,
+        Op::Jeq => x == y,
+        Op::Jne => x != y,
+        Op::Jlt => x < y,
+        _ => false,
+    };
+    if taken { i.imm as usize } else { place + 1 }
+}
+
 impl Course<'_> {
     // The memory step of this instruction, or the end that comes before it.
     fn memory_step(&self, registers: &[u32; 16], i: Instr) -> Want
         requires words { self.now.words ≤ 4096 }
-        requires registers { has_registers i ≡ true }
+        requires fields { NamesRegisters i }
         requires memory { is_memory i.op ≡ true }
         ensures { (s : State) (place instr : ℕ) (output : List ℕ) → instr < self.now.most_instr → comes_to self.now.words (bounds_of self.now) self.now.full (moved s registers.now place output self.now.steps instr) (Some i) ≡ Some result }
     {
@@ -111,6 +136,7 @@ impl Course<'_> {
         match i.op {
             Op::Store => Want::Store(word, registers[usize::from(i.a)]),
             _ if self.full => Want::Ended(End::EntriesFull),
+            Op::Xchg => Want::Swap(word, registers[usize::from(i.a)]),
             _ => Want::Load(word),
         }
     }
@@ -126,25 +152,31 @@ impl Course<'_> {
     ) -> Result<Turn, Memory>
         requires words { self.now.words ≤ 4096 }
         requires place { place < 4096 }
-        requires rules { IsInstr (length self.now.code.now) i }
+        requires fields { NamesRegisters i }
         ensures ok { IfOk result (λ turn. (s : State) → Turns self.now.words (bounds_of self.now) self.now.full i (moved s registers.old place output.old.items self.now.steps instr) turn registers.new output.new.items) }
         ensures err { OnErr result ((s : State) → comes_to self.now.words (bounds_of self.now) self.now.full (moved s registers.old place output.old.items self.now.steps instr) (Some i) ≡ None) }
         ensures puts { OnErr result (i.op ≡ Op.Out) }
         ensures kept { take (length output.old.items) output.new.items ≡ output.old.items }
     {
-        let a = usize::from(i.a);
-        let b = usize::from(i.b);
+        let (a, b, c) = (usize::from(i.a), usize::from(i.b), usize::from(i.c));
         match i.op {
             Op::Halt => return Ok(Turn::Stop(Want::Ended(End::Halted))),
             _ if instr >= self.most_instr => {
                 return Ok(Turn::Stop(Want::Ended(End::InstrSpent)));
             }
             Op::Const => registers[a] = i.imm,
+            Op::Mov => registers[a] = registers[b],
+            Op::Add => registers[a] = registers[b].wrapping_add(registers[c]),
+            Op::Sub => registers[a] = registers[b].wrapping_sub(registers[c]),
+            Op::Mul => registers[a] = registers[b].wrapping_mul(registers[c]),
+            Op::And => registers[a] = registers[b] & registers[c],
+            Op::Or => registers[a] = registers[b] | registers[c],
+            Op::Xor => registers[a] = registers[b] ^ registers[c],
+            Op::Shl => registers[a] = registers[b].wrapping_shl(registers[c]),
+            Op::Shr => registers[a] = registers[b].wrapping_shr(registers[c]),
             Op::Addi => registers[a] = registers[b].wrapping_add(i.imm),
-            Op::Jeq => {
-                if registers[a] == registers[b] {
-                    return Ok(Turn::Next(i.imm as usize));
-                }
+            Op::Jmp | Op::Jeq | Op::Jne | Op::Jlt => {
+                return Ok(Turn::Next(jump(registers, place, i)));
             }
             Op::Out => {
                 if output.len() >= MOST_OUTPUTS {
@@ -154,7 +186,9 @@ impl Course<'_> {
                     return Err(Memory);
                 }
             }
-            Op::Load | Op::Store => return Ok(Turn::Stop(self.memory_step(registers, i))),
+            Op::Load | Op::Store | Op::Xchg | Op::Cas => {
+                return Ok(Turn::Stop(self.memory_step(registers, i)));
+            }
         }
         Ok(Turn::Next(place + 1))
     }
@@ -213,6 +247,7 @@ impl Core {
             steps: 0,
             instr: 0,
             doing: HALT,
+            expected: None,
             pending: None,
         }
     }
@@ -229,6 +264,49 @@ impl Core {
         if let Some(wanted) = self.pending {
             return Ok(wanted);
         }
+        match self.expected {
+            Some(expected) => Ok(self.go_on(limits, full, expected)),
+            None => self.run(program, limits, full),
+        }
+    }
+
+    // Comes to the second step of a compare-exchange, or to the end before it.
+    fn go_on(&mut self, limits: &Limits, full: bool, expected: Expected) -> Want
+        requires { self.old.expected ≡ Some expected }
+        ensures state { self.new ≡ record self.old { pending = Some (second_wanted limits.now full self.old expected) } }
+        ensures value { result ≡ second_wanted limits.now full self.old expected }
+    {
+        let wanted = self.second_wanted(limits, full, expected);
+        let told = wanted;
+        self.pending = Some(wanted);
+        told
+    }
+
+    // The second step of a compare-exchange, or the end before it.
+    fn second_wanted(&self, limits: &Limits, full: bool, expected: Expected) -> Want
+        requires { self.now.expected ≡ Some expected }
+        ensures value { result ≡ second_wanted limits.now full self.now expected }
+        ensures room { has_ended result ≡ false → self.now.steps < 268435455 }
+    {
+        if self.steps >= limits.steps() {
+            return Want::Ended(End::StepsSpent);
+        }
+        if full {
+            return Want::Ended(End::EntriesFull);
+        }
+        let value = self.registers[usize::from(self.doing.c)];
+        Want::Cond(expected.word, expected.tag, value)
+    }
+
+    // Runs local instructions up to the next memory step or the end.
+    fn run(&mut self, program: &Program, limits: &Limits, full: bool) -> Result<Want, Memory>
+        requires thread { self.old.thread < length program.now.threads }
+        requires fresh { self.old.expected ≡ None }
+        requires none { self.old.pending ≡ None }
+        ensures ok { IfOk result (λ wanted. (self.new ≡ run_on (code_of program.now self.old.thread) (length program.now.words) limits.now full self.old) × (self.new.pending ≡ Some wanted)) }
+        ensures err { OnErr result (self.new ≡ self.old) }
+        ensures memory { OnErr result (length self.old.output < length (run_on (code_of program.now self.old.thread) (length program.now.words) limits.now full self.old).output) }
+    {
         let course = Course {
             code: program.threads(usize::from(self.thread)),
             words: program.words().len(),
@@ -255,13 +333,26 @@ impl Core {
         }
     }
 
-    /// Takes the cell that the pending reading step found; nothing is pending afterwards.
+    /// Takes the cell that the pending reading step found; nothing is pending afterwards. A conditional write has won
+    /// exactly where the cell's tag is the one that it expects.
     pub fn found(&mut self, cell: Cell)
         requires { IsSomeAnd self.old.pending (λ wanted. reads wanted ≡ true) }
         ensures { self.new ≡ took self.old (Some cell) }
     {
-        self.registers[usize::from(self.doing.a)] = cell.value;
-        self.step_done();
+        match &self.pending {
+            Some(Want::Cond(_, seen, _)) => {
+                let seen = *seen;
+                self.exchanged(seen, cell)
+            }
+            Some(Want::Load(word)) if self.doing.op == Op::Cas => {
+                let word = *word;
+                self.compared(word, cell)
+            }
+            _ => {
+                self.give(cell.value);
+                self.step_done();
+            }
+        }
     }
 
     /// The pending store was made; nothing is pending afterwards.
@@ -272,7 +363,56 @@ impl Core {
         self.step_done();
     }
 
-    // The pending memory step was taken, and with it its instruction.
+    // The load of a compare-exchange found this cell in a word: the value of register a leaves the second step to be
+    // taken, another one ends the instruction.
+    fn compared(&mut self, word: u16, cell: Cell)
+        requires { IsSomeAnd self.old.pending (λ wanted. has_ended wanted ≡ false) }
+        ensures { self.new ≡ compared self.old word cell }
+    {
+        if cell.value == self.registers[usize::from(self.doing.a)] {
+            self.steps += 1;
+            self.expected = Some(Expected {
+                word,
+                tag: cell.tag,
+            });
+            self.pending = None;
+        } else {
+            self.give(cell.value);
+            self.cas_done(0);
+        }
+    }
+
+    // The second step of a compare-exchange found this cell, and wins where the tag that was seen still stands there.
+    fn exchanged(&mut self, seen: Tag, cell: Cell)
+        requires { IsSomeAnd self.old.pending (λ wanted. has_ended wanted ≡ false) }
+        ensures { self.new ≡ exchanged self.old seen cell }
+    {
+        if cell.tag.writer() == seen.writer() {
+            self.cas_done(1);
+        } else {
+            self.give(cell.value);
+            self.cas_done(2);
+        }
+    }
+
+    // A compare-exchange is done, and register 15 tells how it went.
+    fn cas_done(&mut self, how: u32)
+        requires { IsSomeAnd self.old.pending (λ wanted. has_ended wanted ≡ false) }
+        ensures { self.new ≡ step_done (told self.old how) }
+    {
+        self.registers[15] = how;
+        self.step_done();
+    }
+
+    // Register a of the pending step's instruction becomes a value.
+    fn give(&mut self, value: u32)
+        requires { IsSomeAnd self.old.pending (λ wanted. has_ended wanted ≡ false) }
+        ensures { self.new ≡ with_register self.old self.old.doing.a value }
+    {
+        self.registers[usize::from(self.doing.a)] = value;
+    }
+
+    // The pending memory step was taken, and with it its instruction is done.
     fn step_done(&mut self)
         requires { IsSomeAnd self.old.pending (λ wanted. has_ended wanted ≡ false) }
         ensures { self.new ≡ step_done self.old }
@@ -280,6 +420,7 @@ impl Core {
         self.place += 1;
         self.steps += 1;
         self.instr += 1;
+        self.expected = None;
         self.pending = None;
     }
 

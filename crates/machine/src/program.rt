@@ -7,24 +7,80 @@ ghost use Rattle.machine.specs.Faults.{instr_fault, code_fault, codes_fault, pro
 use crate::image_fault::{ImageFault, ImageKind};
 use std::marker::Model;
 
-/// What an instruction does. R(x) is the value of register x, sums are modulo 2^32.
+/// What an instruction does. R(x) is the value of register x; sums, differences, products and shifts to the left are
+/// modulo 2^32, and comparisons are unsigned.
 #[derive(Clone, Copy, Debug, PartialEq, Eq)]
 pub enum Op {
     /// The thread ends.
     Halt,
     /// R(a) becomes imm.
     Const,
+    /// R(a) becomes R(b).
+    Mov,
+    /// R(a) becomes R(b) + R(c).
+    Add,
+    /// R(a) becomes R(b) - R(c).
+    Sub,
+    /// R(a) becomes R(b) * R(c).
+    Mul,
+    /// R(a) becomes the bits that R(b) and R(c) both have.
+    And,
+    /// R(a) becomes the bits that R(b) or R(c) has.
+    Or,
+    /// R(a) becomes the bits that one of R(b) and R(c) has.
+    Xor,
+    /// R(a) becomes R(b) shifted to the left by R(c) modulo 32.
+    Shl,
+    /// R(a) becomes R(b) shifted to the right by R(c) modulo 32; zeros come in.
+    Shr,
     /// R(a) becomes R(b) + imm.
     Addi,
+    /// The place becomes imm.
+    Jmp,
     /// The place becomes imm where R(a) = R(b).
     Jeq,
+    /// The place becomes imm where R(a) and R(b) differ.
+    Jne,
+    /// The place becomes imm where R(a) < R(b).
+    Jlt,
     /// R(a) is put out.
     Out,
     /// R(a) becomes the word at R(b) + imm.
     Load,
     /// The word at R(b) + imm becomes R(a).
     Store,
+    /// The word at R(b) + imm becomes R(a), and R(a) the value before.
+    Xchg,
+    /// The word at R(b) + imm is read. Where its value is not R(a), R(a) becomes it and register 15 becomes 0. Else, in a
+    /// second step, the word becomes R(c) where nobody has written it since, and register 15 becomes 1; where somebody
+    /// has, R(a) becomes the value found and then register 15 becomes 2.
+    Cas,
 }
+
+/// Every operation, in the order of their codes.
+pub const OPS: [Op; 21] = [
+    Op::Halt,
+    Op::Const,
+    Op::Mov,
+    Op::Add,
+    Op::Sub,
+    Op::Mul,
+    Op::And,
+    Op::Or,
+    Op::Xor,
+    Op::Shl,
+    Op::Shr,
+    Op::Addi,
+    Op::Jmp,
+    Op::Jeq,
+    Op::Jne,
+    Op::Jlt,
+    Op::Out,
+    Op::Load,
+    Op::Store,
+    Op::Xchg,
+    Op::Cas,
+];
 
 impl Op {
     /// The operation with this code; None where no operation has it.
@@ -32,75 +88,58 @@ impl Op {
         ensures value { result ≡ op_of code }
         ensures exact { (op : Op) → (result ≡ Some op) ↔ (code ≡ code_of_op op) }
     {
-        match code {
-            0 => Some(Op::Halt),
-            1 => Some(Op::Const),
-            11 => Some(Op::Addi),
-            13 => Some(Op::Jeq),
-            16 => Some(Op::Out),
-            17 => Some(Op::Load),
-            18 => Some(Op::Store),
-            _ => None,
-        }
+        let at = usize::from(code);
+        if at < OPS.len() { Some(OPS[at]) } else { None }
     }
 
     /// The number of the operation in an image.
     pub fn code(&self) -> u8
         ensures { result ≡ code_of_op self.now }
     {
-        match self {
-            Op::Halt => 0,
-            Op::Const => 1,
-            Op::Addi => 11,
-            Op::Jeq => 13,
-            Op::Out => 16,
-            Op::Load => 17,
-            Op::Store => 18,
-        }
+        *self as u8
     }
 
-    fn uses_a(self) -> bool
+    /// Whether the operation uses field a, as a register.
+    pub fn uses_a(self) -> bool
         ensures { result ≡ uses_a self }
     {
-        match self {
-            Op::Const | Op::Addi | Op::Jeq | Op::Out | Op::Load | Op::Store => true,
-            Op::Halt => false,
-        }
+        !matches!(self, Op::Halt | Op::Jmp)
     }
 
-    fn uses_b(self) -> bool
+    /// Whether the operation uses field b, as a register.
+    pub fn uses_b(self) -> bool
         ensures { result ≡ uses_b self }
     {
-        match self {
-            Op::Addi | Op::Jeq | Op::Load | Op::Store => true,
-            Op::Halt | Op::Const | Op::Out => false,
-        }
+        !matches!(self, Op::Halt | Op::Const | Op::Jmp | Op::Out)
     }
 
-    fn uses_c(self) -> bool
+    /// Whether the operation uses field c, as a register.
+    pub fn uses_c(self) -> bool
         ensures { result ≡ uses_c self }
     {
         match self {
-            Op::Halt | Op::Const | Op::Addi | Op::Jeq | Op::Out | Op::Load | Op::Store => false,
+            Op::Add | Op::Sub | Op::Mul | Op::And | Op::Or | Op::Xor | Op::Shl | Op::Shr => true,
+            Op::Cas => true,
+            _ => false,
         }
     }
 
-    fn uses_imm(self) -> bool
+    /// Whether the operation uses imm, as a number or as a place.
+    pub fn uses_imm(self) -> bool
         ensures { result ≡ uses_imm self }
     {
         match self {
-            Op::Const | Op::Addi | Op::Jeq | Op::Load | Op::Store => true,
-            Op::Halt | Op::Out => false,
+            Op::Const | Op::Addi => true,
+            Op::Load | Op::Store | Op::Xchg | Op::Cas => true,
+            _ => self.jumps(),
         }
     }
 
-    fn jumps(self) -> bool
+    /// Whether imm is a place in the code.
+    pub fn jumps(self) -> bool
         ensures { result ≡ jumps self }
     {
-        match self {
-            Op::Jeq => true,
-            Op::Halt | Op::Const | Op::Addi | Op::Out | Op::Load | Op::Store => false,
-        }
+        matches!(self, Op::Jmp | Op::Jeq | Op::Jne | Op::Jlt)
     }
 }
 

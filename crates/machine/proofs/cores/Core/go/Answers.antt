@@ -1,38 +1,32 @@
-use Rattle.std.proofs.Common.{length, refl, sym, ◌∙◌, ap, subst, arith}
-use Rattle.machine.specs.Cores.{State, IsState}
-use Rattle.machine.specs.contracts.cores.Core.{the_view}
-use Rattle.machine.proofs.Going.{none_from, settled_already, code_rules, limits_rules, run_on-settled}
-use Rattle.machine.proofs.Keeps.{run_on-is_state}
+use Rattle.std.proofs.Common.{◌≡◌, ◌<◌, length, refl, sym, ◌∙◌, ap, subst}
+use Rattle.std.specs.Prelude.{None, Some, IfOk, OnErr}
+use Rattle.machine.specs.Cores.{State}
+use Rattle.machine.proofs.Going.{settled_already}
+use Rattle.machine.proofs.Rests.{settled-none}
 use Rattle.machine.proofs.cores.Core.go.Goals as goal
 
 pub returns-in-Some-clause-ok : goal.returns-in-Some-clause-ok
 returns-in-Some-clause-ok c =
-    settled_already c.args.program.now c.args.limits.now c.args.full (the_view c.self.inside) c.args.self.now c.in-Some.wanted c.self.view_is c.in-Some.is
+    settled_already c.args.program.now c.args.limits.now c.args.full c.args.self.now c.args.self.now c.in-Some.wanted refl (sym (ap (λ (n : State). n.pending) c.self.view_is) ∙ c.in-Some.is)
 
-pub invariant_of-self : goal.invariant_of-self
-invariant_of-self c =
-    let s = the_view c.self.inside in
-    let program = c.args.program.now in
-    let thread = ap (λ (n : State). n.thread) c.self.view_is in
-    let rules = code_rules program c.from.result c.threads.result.now c.threads.ensures.rules (omega (arith, thread, c.from.ensures)) c.threads.ensures.value in
-    let limits = limits_rules c.args.limits.now c.steps.result c.instr.result c.steps.ensures.rules c.steps.ensures.value c.instr.ensures.value in
-    subst IsState (c.in-Ok.ensures.ok s) (run_on-is_state c.threads.result.now (length c.words.result.now) _ c.args.full s rules limits (none_from c.self.inside.pending c.in_default.not-Some) c.self.invariant)
-
-pub returns-in-Ok-clause-ok : goal.returns-in-Ok-clause-ok
-returns-in-Ok-clause-ok c =
-    let s = the_view c.self.inside in (
-      sym (c.in-Ok.ensures.ok s) ∙
-          run_on-settled c.args.program.now c.args.limits.now c.args.full s c.args.self.now c.self.view_is (none_from c.self.inside.pending c.in_default.not-Some) c.from.result c.from.ensures
-          c.threads.result.now c.threads.ensures.value c.words.result.now c.words.ensures.value c.steps.result c.instr.result c.steps.ensures.value c.instr.ensures.value,
-      refl,
+pub returns-in-Some-expected-clause-ok : goal.returns-in-Some-expected-clause-ok
+returns-in-Some-expected-clause-ok c =
+    let none = sym (ap (λ (n : State). n.pending) c.self.view_is) ∙ c.in_default.is in
+    let second = sym (ap (λ (n : State). n.expected) c.self.view_is) ∙ c.in-Some-expected.is in (
+      c.go_on.ensures.state ∙ sym (settled-none c.args.program.now c.args.limits.now c.args.full c.args.self.now (Some c.in-Some-expected.expected) none second),
+      ap (λ (n : State). n.pending) c.go_on.ensures.state ∙ ap Some (sym c.go_on.ensures.value),
     )
 
-pub returns-in-Err-clause-memory : goal.returns-in-Err-clause-memory
-returns-in-Err-clause-memory c =
-    let s = the_view c.self.inside in
-    let e = run_on-settled c.args.program.now c.args.limits.now c.args.full s c.args.self.now c.self.view_is (none_from c.self.inside.pending c.in_default.not-Some) c.from.result c.from.ensures
-    c.threads.result.now c.threads.ensures.value c.words.result.now c.words.ensures.value c.steps.result c.instr.result c.steps.ensures.value c.instr.ensures.value in
-    let a = ap (λ (n : State). length n.output) e in
-    let b = ap (λ (n : State). length n.output) c.self.view_is in
-    let d = c.in-Err.ensures.err s in
-    omega (arith, a, b, d)
+pub returns-in-None-clause-ok : goal.returns-in-None-clause-ok
+returns-in-None-clause-ok c =
+    let none = sym (ap (λ (n : State). n.pending) c.self.view_is) ∙ c.in_default.is in
+    let local = sym (ap (λ (n : State). n.expected) c.self.view_is) ∙ c.in-None.is in
+    let P : State → Type 0 = λ n. IfOk c.run.result (λ wanted. (c.run.new.self ≡ n) × (c.run.new.self.pending ≡ Some wanted)) in
+    subst P (sym (settled-none c.args.program.now c.args.limits.now c.args.full c.args.self.now None none local)) c.run.ensures.ok
+
+pub returns-in-None-clause-memory : goal.returns-in-None-clause-memory
+returns-in-None-clause-memory c =
+    let none = sym (ap (λ (n : State). n.pending) c.self.view_is) ∙ c.in_default.is in
+    let local = sym (ap (λ (n : State). n.expected) c.self.view_is) ∙ c.in-None.is in
+    let P : State → Type 0 = λ n. OnErr c.run.result (length c.args.self.now.output < length n.output) in
+    subst P (sym (settled-none c.args.program.now c.args.limits.now c.args.full c.args.self.now None none local)) c.run.ensures.memory

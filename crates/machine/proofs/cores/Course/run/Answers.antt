@@ -6,9 +6,16 @@ use Rattle.replay_model.specs.declared.Want.TheVariants as want
 use Rattle.replay_model.specs.declared.End.TheVariants as end
 use Rattle.machine.specs.Cores.{State, first_state, halt}
 use Rattle.machine.specs.Turns.{bounds_of, moved}
+use Rattle.machine.proofs.Keeps.{instr_at, names_registers}
 use Rattle.machine.proofs.Local.{run_on-stop}
 use Rattle.machine.proofs.Turning.{next-room, next-goes, stop-rests, out-grows, begins-long, begins-on, on_err}
 use Rattle.machine.proofs.cores.Course.run.Goals as goal
+
+pub turn-requires-clause-fields : goal.turn-requires-clause-fields
+turn-requires-clause-fields c =
+    let code = c.args.self.now.code.now in
+    let i = slice_index_or code c.loop-place.place halt in
+    names_registers (length code) i (instr_at code c.loop-place.place i c.requires.code (slice_get-get_or code c.loop-place.place halt c.loop-place-test.true))
 
 pub loop-place-init : goal.loop-place-init
 loop-place-init c = record { same = λ s. refl; kept = take-length c.args.output.now.items }
