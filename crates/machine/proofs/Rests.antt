@@ -17,20 +17,26 @@ use Rattle.machine.proofs.Local.{passed, GoesOn, going_instr, ran-follows}
 
 -- ---- what an instruction wants
 
+-- whether the step is a conditional write
+abbrev pub is_conditional : Want → Bool
+is_conditional (want.Cond word seen value) = true
+is_conditional _ = false
+
 -- the first memory step of an instruction
 record IsStep (o : Op) (s : State) (i : Instr) (wanted : Want) : Type 0 where
   memory : is_memory o ≡ true
   word : word_of wanted ≡ address_of s i
   reading : reads wanted ≡ is_reading o
   lives : has_ended wanted ≡ false
+  first : is_conditional wanted ≡ false
 
 step_is : (o : Op) (s : State) (i : Instr) (wanted : Want) → step_wanted o s i ≡ Some wanted → IsStep o s i wanted
-step_is op.Load s i wanted h = let e : want.Load (address_of s i) ≡ wanted = cc in subst (IsStep op.Load s i) e (record { memory = refl; word = refl; reading = refl; lives = refl })
+step_is op.Load s i wanted h = let e : want.Load (address_of s i) ≡ wanted = cc in subst (IsStep op.Load s i) e (record { memory = refl; word = refl; reading = refl; lives = refl; first = refl })
 step_is op.Store s i wanted h =
-    let e : want.Store (address_of s i) (slice_index s.registers i.a) ≡ wanted = cc in subst (IsStep op.Store s i) e (record { memory = refl; word = refl; reading = refl; lives = refl })
+    let e : want.Store (address_of s i) (slice_index s.registers i.a) ≡ wanted = cc in subst (IsStep op.Store s i) e (record { memory = refl; word = refl; reading = refl; lives = refl; first = refl })
 step_is op.Xchg s i wanted h =
-    let e : want.Swap (address_of s i) (slice_index s.registers i.a) ≡ wanted = cc in subst (IsStep op.Xchg s i) e (record { memory = refl; word = refl; reading = refl; lives = refl })
-step_is op.Cas s i wanted h = let e : want.Load (address_of s i) ≡ wanted = cc in subst (IsStep op.Cas s i) e (record { memory = refl; word = refl; reading = refl; lives = refl })
+    let e : want.Swap (address_of s i) (slice_index s.registers i.a) ≡ wanted = cc in subst (IsStep op.Xchg s i) e (record { memory = refl; word = refl; reading = refl; lives = refl; first = refl })
+step_is op.Cas s i wanted h = let e : want.Load (address_of s i) ≡ wanted = cc in subst (IsStep op.Cas s i) e (record { memory = refl; word = refl; reading = refl; lives = refl; first = refl })
 step_is _ s i wanted h = absurd cc
 
 -- of two tests that do not both hold, the first of which does, the second does not
@@ -51,6 +57,15 @@ some_of (Some e) w wanted h lives =
     let t : has_ended wanted ≡ true = ap has_ended q in
     cc
 
+-- an instruction does not begin with a conditional write
+first_of_either : (e : Option End) (o : Op) (s : State) (i : Instr) (wanted : Want) → ended_or e (step_wanted o s i) ≡ Some wanted → is_conditional wanted ≡ false
+first_of_either None o s i wanted h = (step_is o s i wanted h).first
+first_of_either (Some e) o s i wanted h = let q : want.Ended e ≡ wanted = cc in sym (ap is_conditional q)
+
+comes_first : (words : ℕ) (limits : LimitsValue) (full : Bool) (s : State) (o : Option Instr) (wanted : Want) → comes_to words limits full s o ≡ Some wanted → is_conditional wanted ≡ false
+comes_first words limits full s None wanted h = let q : want.Ended end.Halted ≡ wanted = cc in sym (ap is_conditional q)
+comes_first words limits full s (Some i) wanted h = first_of_either (end_before words limits full s i) i.op s i wanted h
+
 -- a memory step that the thread may take
 pub record MayBeTaken (words : ℕ) (limits : LimitsValue) (s : State) (wanted : Want) : Type 0 where
   pub word : word_of wanted < words
@@ -67,7 +82,7 @@ comes-taken words limits full s i wanted h lives =
     let c = passed _ _ _ b.1 in
     let d = passed _ _ _ c.1 in
     let step = step_is i.op s i wanted e.1 in
-    let w = step.word in
+    let w : word_of wanted ≡ address_of s i = step.word in
     let l = leb-false _ _ (not_both (is_memory i.op) (leb words (address_of s i)) step.memory c.0) in
     record { word = omega (arith, w, l); steps = leb-false _ _ (not_both (is_memory i.op) (leb limits.steps s.steps) step.memory d.0); instr = leb-false _ _ b.0 }
 
@@ -117,6 +132,13 @@ comes_asked words limits full s (Some i) wanted h =
 
 -- ---- settling
 
+-- a conditional write is the second step of a compare-exchange that is left
+pub record IsLeft (s : State) (word : ℕ) (seen : Tag) : Type 0 where
+  pub expected : Expected
+  pub left : s.expected ≡ Some expected
+  pub at : expected.word ≡ word
+  pub tag : expected.tag ≡ seen
+
 -- the new state is the old one with something pending: an end, or a memory step that may be taken
 pub record Settles (words : ℕ) (limits : LimitsValue) (full : Bool) (old new : State) : Type 0 where
   pub thread : new.thread ≡ old.thread
@@ -125,11 +147,16 @@ pub record Settles (words : ℕ) (limits : LimitsValue) (full : Bool) (old new :
   pub pending : new.pending ≡ Some wanted
   pub step : has_ended wanted ≡ false → MayBeTaken words limits new wanted
   pub asked : IsAsked words full wanted
+  pub second : (word : ℕ) (seen : Tag) (value : ℕ) → wanted ≡ want.Cond word seen value → IsLeft old word seen
+
+-- a first step is no second one
+not_second : (s : State) (wanted : Want) → is_conditional wanted ≡ false → (word : ℕ) (seen : Tag) (value : ℕ) → wanted ≡ want.Cond word seen value → IsLeft s word seen
+not_second s wanted first word seen value h = let q : is_conditional wanted ≡ true = ap is_conditional h in absurd cc
 
 -- stopping at an instruction settles
 waiting-settles : (words : ℕ) (limits : LimitsValue) (full : Bool) (s : State) (o : Option Instr) (wanted : Want) → comes_to words limits full s o ≡ Some wanted → Settles words limits full s (waiting s o wanted)
 waiting-settles words limits full s None wanted h =
-    record { thread = refl; steps = refl; wanted = wanted; pending = refl; step = λ lives. let e = comes-past words limits full s wanted h in cc; asked = comes_asked words limits full s None wanted h }
+    record { thread = refl; steps = refl; wanted = wanted; pending = refl; step = λ lives. let e = comes-past words limits full s wanted h in cc; asked = comes_asked words limits full s None wanted h; second = not_second s wanted (comes_first words limits full s None wanted h) }
 waiting-settles words limits full s (Some i) wanted h = record {
   thread = refl;
   steps = refl;
@@ -137,6 +164,7 @@ waiting-settles words limits full s (Some i) wanted h = record {
   pending = refl;
   step = λ lives. (let t = comes-taken words limits full s i wanted h lives in record { word = t.word; steps = t.steps; instr = t.instr });
   asked = comes_asked words limits full s (Some i) wanted h;
+  second = not_second s wanted (comes_first words limits full s (Some i) wanted h);
 }
 
 -- stopping does, or what follows does
@@ -149,7 +177,15 @@ waiting_or-settles words limits full s o (Some wanted) h next f = waiting-settle
 ran-settles : (words : ℕ) (limits : LimitsValue) (full : Bool) (s : State) (i : Instr) (new : State) → Settles words limits full (ran i.op s i) new → Settles words limits full s new
 ran-settles words limits full s i new h =
     let f = ran-follows i.op s i in
-    record { thread = h.thread ∙ f.thread; steps = h.steps ∙ f.steps; wanted = h.wanted; pending = h.pending; step = h.step; asked = h.asked }
+    record {
+      thread = h.thread ∙ f.thread;
+      steps = h.steps ∙ f.steps;
+      wanted = h.wanted;
+      pending = h.pending;
+      step = h.step;
+      asked = h.asked;
+      second = λ word seen value q. (let l = h.second word seen value q in record { expected = l.expected; left = l.left; at = l.at; tag = l.tag });
+    }
 
 -- enough local instructions settle
 run_local-settles : (n : ℕ) (code : List Instr) (words : ℕ) (limits : LimitsValue) (full : Bool) (s : State) → limits.instr - s.instr < n → Settles words limits full s (run_local n code words limits full s)
@@ -166,19 +202,20 @@ unfolding run_on
 run_on-settles code words limits full s = run_local-settles _ code words limits full s (omega arith)
 
 -- the second step of a compare-exchange, by the tests that it comes from
-record IsSecond (spent full : Bool) (word : ℕ) (wanted : Want) : Type 0 where
+record IsSecond (spent full : Bool) (word : ℕ) (seen : Tag) (wanted : Want) : Type 0 where
   step : has_ended wanted ≡ false → (spent ≡ false) × (word_of wanted ≡ word)
   room : reads wanted ≡ true → full ≡ false
   address : (a : ℕ) → wanted ≡ want.Ended (end.BadAddress a) → ⊥
+  second : (at : ℕ) (tag : Tag) (value : ℕ) → wanted ≡ want.Cond at tag value → (word ≡ at) × (seen ≡ tag)
 
-second_is : (spent full : Bool) (word : ℕ) (seen : Tag) (value : ℕ) → IsSecond spent full word (cond spent (want.Ended end.StepsSpent) (cond full (want.Ended end.EntriesFull) (want.Cond word seen value)))
-second_is true full word seen value = record { step = λ lives. cc; room = λ r. cc; address = λ a e. cc }
-second_is false true word seen value = record { step = λ lives. cc; room = λ r. cc; address = λ a e. cc }
-second_is false false word seen value = record { step = λ lives. (refl, refl); room = λ r. refl; address = λ a e. cc }
+second_is : (spent full : Bool) (word : ℕ) (seen : Tag) (value : ℕ) → IsSecond spent full word seen (cond spent (want.Ended end.StepsSpent) (cond full (want.Ended end.EntriesFull) (want.Cond word seen value)))
+second_is true full word seen value = record { step = λ lives. cc; room = λ r. cc; address = λ a e. cc; second = λ at tag v e. absurd cc }
+second_is false true word seen value = record { step = λ lives. cc; room = λ r. cc; address = λ a e. cc; second = λ at tag v e. absurd cc }
+second_is false false word seen value = record { step = λ lives. (refl, refl); room = λ r. refl; address = λ a e. cc; second = λ at tag v e. (cc, cc) }
 
 -- coming to it settles, where its word is there and an instruction is left
-second-settles : (words : ℕ) (limits : LimitsValue) (full : Bool) (s : State) (e : Expected) → e.word < words → s.instr < limits.instr → Settles words limits full s (record s { pending = Some (second_wanted limits full s e) })
-second-settles words limits full s e word instr =
+second-settles : (words : ℕ) (limits : LimitsValue) (full : Bool) (s : State) (e : Expected) → s.expected ≡ Some e → e.word < words → s.instr < limits.instr → Settles words limits full s (record s { pending = Some (second_wanted limits full s e) })
+second-settles words limits full s e left word instr =
     let h = second_is (leb limits.steps s.steps) full e.word e.tag (register s s.doing.c) in
     record {
       thread = refl;
@@ -187,6 +224,7 @@ second-settles words limits full s e word instr =
       pending = refl;
       step = λ lives. (let t = h.step lives in let w = t.1 in record { word = omega (arith, w, word); steps = leb-false _ _ t.0; instr = instr });
       asked = record { room = h.room; address = λ a q. absurd (h.address a q) };
+      second = λ word seen value q. (let l = h.second word seen value q in record { expected = e; left = left; at = l.0; tag = l.1 });
     }
 
 -- what holds of a state before it settles: nothing is pending, and a compare-exchange whose second step is left has its word, an instruction and a code
@@ -208,7 +246,7 @@ settled-none p limits full s e h q = ap (λ o. if_none o s (resumed p limits ful
 
 resumed-settles : (p : ProgramValue) (limits : LimitsValue) (full : Bool) (s : State) (e : Option Expected) → s.expected ≡ e → IsBetween p limits s → Settles (length p.words) limits full s (resumed p limits full s e)
 resumed-settles p limits full s None q h = run_on-settles (code_of p s.thread) (length p.words) limits full s
-resumed-settles p limits full s (Some e) q h = second-settles (length p.words) limits full s e (h.word e q) (h.instr e q)
+resumed-settles p limits full s (Some e) q h = second-settles (length p.words) limits full s e q (h.word e q) (h.instr e q)
 
 -- and then it has something pending
 pub settled-settles : (p : ProgramValue) (limits : LimitsValue) (full : Bool) (s : State) → IsBetween p limits s → Settles (length p.words) limits full s (settled p limits full s)

@@ -1,9 +1,9 @@
 -- Threads as functions of their memory steps.
-use Rattle.std.proofs.Common.{◌≡◌, ℕ, ◌+◌, ◌<◌, ◌≤◌, Bool, true, false, List, [], ◌∷◌, ◌++◌, length, refl, sym, ◌∙◌, ap, subst, arith, append_assoc, append-nil}
+use Rattle.std.proofs.Common.{◌≡◌, ◌⊎◌, ℕ, ◌+◌, ◌<◌, ◌≤◌, Bool, true, false, List, [], ◌∷◌, ◌++◌, length, refl, sym, ◌∙◌, ap, subst, arith, append_assoc, append-nil, inl, inr}
 use Rattle.std.proofs.lemmas.List.{get_or_past}
 use Rattle.std.specs.Prelude.{Option, Some, None, IsSome}
 use Rattle.light_base.specs.declared.tag.Cell.{Cell}
-use Rattle.replay_model.specs.Steps.{Step, has_ended, word_of}
+use Rattle.replay_model.specs.Steps.{Tag, Step, has_ended, word_of}
 use Rattle.replay_model.specs.Threads.{StaysWithin, HasOnly, EndsWithin}
 use Rattle.replay_model.specs.ThreadLogs.{is_full}
 use Rattle.replay_model.specs.declared.Want.{Want}
@@ -12,7 +12,8 @@ use Rattle.replay_model.specs.declared.End.TheVariants as end
 use Rattle.machine.specs.Programs.{ProgramValue, LimitsValue, code_of}
 use Rattle.machine.specs.declared.cores.Expected.{Expected}
 use Rattle.machine.specs.declared.program.Instr.{Instr}
-use Rattle.machine.specs.Cores.{State, first_state, settled, took, want_or, resumed, run_on}
+use Rattle.machine.specs.Cores.{State, first_state, settled, took, want_or, pending_want, resumed, run_on}
+use Rattle.machine.specs.Laws.{FollowsLoad}
 use Rattle.machine.specs.Runs.{state_from, state_after, threads_of}
 use Rattle.machine.proofs.Local.{run_on-stop}
 use Rattle.machine.proofs.Rests.{MayBeTaken, IsAsked, IsBetween, run_on-settles, settled-settles, settled-some, settled-none}
@@ -59,10 +60,8 @@ settled-stands p limits full s h =
     }
 
 -- a memory step from there leads on
-stands-between : (p : ProgramValue) (limits : LimitsValue) (full : Bool) (s : State) (cell : Option Cell) → IsBetween p limits s → IsBetween p limits (took (settled p limits full s) cell)
-stands-between p limits full s cell h =
-    let t = settled-settles p limits full s h in
-    took_between p limits full s (settled p limits full s) cell t (λ over. let e = t.thread in past_ended p limits full s h (omega arith) t.wanted t.pending)
+stands-between : (p : ProgramValue) (limits : LimitsValue) (full : Bool) (t count : ℕ) (s : State) (cell : Option Cell) → Stands p limits full t count s → IsBetween p limits (took s cell)
+stands-between p limits full t count s cell h = took_between p limits s h.wanted cell h.pending h.step (λ over. let e = h.thread in h.past (omega (arith, e, over)))
 
 -- so stands the state after more steps
 state_from-stands : (p : ProgramValue) (limits : LimitsValue) (earlier : List Step) (s : State) (steps : List Step) → IsBetween p limits s →
@@ -85,7 +84,7 @@ state_from-stands p limits earlier s (step ∷ steps) h =
     let P : ℕ → Type 0 = λ k. Stands p limits full k (s.steps + length (step ∷ steps)) new in
     let Q : ℕ → Type 0 = λ k. Stands p limits full next.thread k new in
     let R : List Step → Type 0 = λ l. Stands p limits (is_full limits.entries l) next.thread (next.steps + length steps) new in
-    subst P e (subst Q n (subst R (append_assoc earlier (step ∷ []) steps) (state_from-stands p limits (earlier ++ step ∷ []) next steps (stands-between p limits (is_full limits.entries earlier) s step.found h))))
+    subst P e (subst Q n (subst R (append_assoc earlier (step ∷ []) steps) (state_from-stands p limits (earlier ++ step ∷ []) next steps (stands-between p limits (is_full limits.entries earlier) s.thread s.steps here step.found (settled-stands p limits (is_full limits.entries earlier) s h)))))
 
 -- before its first step a thread has no second one left
 first_between : (p : ProgramValue) (limits : LimitsValue) (t : ℕ) → IsBetween p limits (first_state t)
@@ -173,3 +172,44 @@ settled_stays p limits full s h = by_pending s.pending refl h
     by_pending : (o : Option Want) → s.pending ≡ o → IsSome o → settled p limits full s ≡ s
     by_pending None e h = cc
     by_pending (Some w) e h = settled-some p limits full s w e
+
+-- ---- a conditional write follows its load
+
+-- a list is empty, or has a last element
+split_last : (steps : List Step) → (steps ≡ []) ⊎ ((earlier : List Step) × (last : Step) × (steps ≡ earlier ++ last ∷ []))
+split_last [] = inl refl
+split_last (step ∷ steps) =
+    elim (split_last steps) [
+      | inl none ↦ inr ([], step, ap (λ (list : List Step). step ∷ list) none)
+      | inr some ↦ inr (step ∷ some.0, some.1, ap (λ (list : List Step). step ∷ list) some.2)
+    ]
+
+-- after so many steps, of which there is a last
+conditional_last : (p : ProgramValue) (limits : LimitsValue) (t : ℕ) (earlier : List Step) (last : Step) (word : ℕ) (seen : Tag) (value : ℕ) → threads_of p limits t (earlier ++ last ∷ []) ≡ want.Cond word seen value →
+    FollowsLoad (threads_of p limits) t (earlier ++ last ∷ []) word seen
+conditional_last p limits t earlier last word seen value h =
+    let before = state_after p limits t earlier in
+    let full = is_full limits.entries (earlier ++ last ∷ []) in
+    let next = took before last.found in
+    let between = stands-between p limits (is_full limits.entries earlier) t (length earlier) before last.found (state_after-stands p limits t earlier) in
+    let settles = settled-settles p limits full next between in
+    let is : threads_of p limits t (earlier ++ last ∷ []) ≡ settles.wanted = ap pending_want (after_step p limits t earlier last) ∙ ap (want_or (want.Ended end.Halted)) settles.pending in
+    let left = settles.second word seen value (sym is ∙ h) in
+    let half = (took_takes before last.found).half left.expected left.left in
+    record { earlier = earlier; last = last; whole = refl; load = half.wanted ∙ ap want.Load left.at; cell = half.seen; found = half.was; tag = half.tag ∙ left.tag }
+
+-- before its first step a thread wants no conditional write
+conditional_first : (p : ProgramValue) (limits : LimitsValue) (t word : ℕ) (seen : Tag) (value : ℕ) → threads_of p limits t [] ≡ want.Cond word seen value → ⊥
+conditional_first p limits t word seen value h =
+    let settles = settled-settles p limits (is_full limits.entries []) (first_state t) (first_between p limits t) in
+    let is : threads_of p limits t [] ≡ settles.wanted = ap (want_or (want.Ended end.Halted)) settles.pending in
+    let left = (settles.second word seen value (sym is ∙ h)).left in
+    cc
+
+pub compares_after_loads : (p : ProgramValue) (limits : LimitsValue) (t : ℕ) (steps : List Step) (word : ℕ) (seen : Tag) (value : ℕ) → threads_of p limits t steps ≡ want.Cond word seen value →
+    FollowsLoad (threads_of p limits) t steps word seen
+compares_after_loads p limits t steps word seen value h =
+    elim (split_last steps) [
+      | inl none ↦ absurd (conditional_first p limits t word seen value (ap (threads_of p limits t) (sym none) ∙ h))
+      | inr some ↦ (let P : List Step → Type 0 = λ list. FollowsLoad (threads_of p limits) t list word seen in subst P (sym some.2) (conditional_last p limits t some.0 some.1 word seen value (ap (threads_of p limits t) (sym some.2) ∙ h)))
+    ]

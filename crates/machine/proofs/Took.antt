@@ -9,7 +9,7 @@ use Rattle.replay_model.specs.declared.End.TheVariants as end
 use Rattle.machine.specs.declared.cores.Expected.{Expected}
 use Rattle.machine.specs.Programs.{ProgramValue, LimitsValue}
 use Rattle.machine.specs.Cores.{State, pending_want, want_or, register, is_cas, step_done, told, given, compared, found, took}
-use Rattle.machine.proofs.Rests.{Settles, IsBetween}
+use Rattle.machine.proofs.Rests.{MayBeTaken, IsBetween}
 
 -- the second step of a compare-exchange is left: its load found the tag that is expected in the word that it wanted
 pub record IsHalf (s : State) (cell : Option Cell) (new : State) (e : Expected) : Type 0 where
@@ -66,17 +66,17 @@ no_half : (o : Option Expected) → ((e : Expected) → o ≡ Some e → ⊥) �
 no_half None h = refl
 no_half (Some e) h = absurd (h e refl)
 
--- after a memory step from a settled state a thread goes on; one that the program does not have has ended
-pub took_between : (p : ProgramValue) (limits : LimitsValue) (full : Bool) (old s : State) (cell : Option Cell) → (h : Settles (length p.words) limits full old s) → (length p.threads ≤ s.thread → has_ended h.wanted ≡ true) →
-    IsBetween p limits (took s cell)
-took_between p limits full old s cell h past =
+-- after a memory step that a thread may take it goes on; one that the program does not have has ended
+pub took_between : (p : ProgramValue) (limits : LimitsValue) (s : State) (wanted : Want) (cell : Option Cell) → s.pending ≡ Some wanted → (has_ended wanted ≡ false → MayBeTaken (length p.words) limits s wanted) →
+    (length p.threads ≤ s.thread → has_ended wanted ≡ true) → IsBetween p limits (took s cell)
+took_between p limits s wanted cell pending step past =
     let t = took_takes s cell in
-    let is : pending_want s ≡ h.wanted = ap (want_or (want.Ended end.Halted)) h.pending in
-    let lives : (e : Expected) → (took s cell).expected ≡ Some e → has_ended h.wanted ≡ false = λ e q. ap has_ended (sym is ∙ (t.half e q).wanted) in
+    let is : pending_want s ≡ wanted = ap (want_or (want.Ended end.Halted)) pending in
+    let lives : (e : Expected) → (took s cell).expected ≡ Some e → has_ended wanted ≡ false = λ e q. ap has_ended (sym is ∙ (t.half e q).wanted) in
     record {
       pending = t.pending;
-      word = λ e q. (let w = ap word_of (sym is ∙ (t.half e q).wanted) in let m = (h.step (lives e q)).word in omega (arith, w, m));
-      instr = λ e q. (let i = (t.half e q).instr in let m = (h.step (lives e q)).instr in omega (arith, i, m));
+      word = λ e q. (let w = ap word_of (sym is ∙ (t.half e q).wanted) in let m = (step (lives e q)).word in omega (arith, w, m));
+      instr = λ e q. (let i = (t.half e q).instr in let m = (step (lives e q)).instr in omega (arith, i, m));
       past = λ over.
           no_half (took s cell).expected (λ e q. let l = lives e q in let thread = t.thread in let there : length p.threads ≤ s.thread = omega (arith, thread, over) in let ends = past there in cc);
     }

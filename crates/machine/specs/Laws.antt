@@ -1,7 +1,8 @@
 -- What holds of the threads of every program.
-use Rattle.std.specs.Prelude.{◌≡◌, ℕ, Bool, IsSome, List, [], ◌∷◌, ◌++◌, length}
-use Rattle.replay_model.specs.Steps.{Step}
-use Rattle.replay_model.specs.Threads.{StaysWithin, HasOnly, EndsWithin}
+use Rattle.std.specs.Prelude.{◌≡◌, ℕ, Bool, Some, IsSome, List, [], ◌∷◌, ◌++◌, length}
+use Rattle.replay_model.specs.Steps.{Tag, Cell, Step}
+use Rattle.replay_model.specs.declared.Want.TheVariants.{Load, Cond}
+use Rattle.replay_model.specs.Threads.{Threads, StaysWithin, HasOnly, EndsWithin}
 use Rattle.replay_model.specs.ThreadLogs.{is_full}
 use Rattle.replay_model.specs.KeptLimits.{KeepsLimits}
 use Rattle.machine.specs.Programs.{ProgramValue, LimitsValue}
@@ -44,3 +45,18 @@ StaySettled = (p : ProgramValue) (limits : LimitsValue) (full : Bool) (s : State
 -- the threads keep to their limits: no run has more instructions, no read comes where the log is full, and an address is bad only where no word has it
 abbrev pub KeepToLimits : Type 0
 KeepToLimits = (p : ProgramValue) (limits : LimitsValue) → KeepsLimits (threads_of p limits) (instructions_of p limits) (length p.words) limits
+
+-- the last of these steps of a thread was a load of this word, which found a cell with this tag
+pub record FollowsLoad (threads : Threads) (t : ℕ) (steps : List Step) (word : ℕ) (seen : Tag) : Type 0 where
+  pub earlier : List Step
+  pub last : Step
+  pub whole : steps ≡ earlier ++ last ∷ []
+  pub load : threads t earlier ≡ Load word
+  pub cell : Cell
+  pub found : last.found ≡ Some cell
+  pub tag : cell.tag ≡ seen
+
+-- a thread wants a conditional write only right after a load of this very word, which found the tag that it expects
+abbrev pub CompareAfterLoads : Type 0
+CompareAfterLoads = (p : ProgramValue) (limits : LimitsValue) (t : ℕ) (steps : List Step) (word : ℕ) (seen : Tag) (value : ℕ) →
+    threads_of p limits t steps ≡ Cond word seen value → FollowsLoad (threads_of p limits) t steps word seen

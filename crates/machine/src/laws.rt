@@ -1,8 +1,9 @@
 // What holds of the threads of every program.
-ghost use Rattle.machine.specs.Laws.{StayWithinWords, HaveOnlyItsThreads, EndWithinSteps, CountSteps, KeepThread, GoStepByStep, SettleWithPending, StaySettled, KeepToLimits};
+ghost use Rattle.machine.specs.Laws.{StayWithinWords, HaveOnlyItsThreads, EndWithinSteps, CountSteps, KeepThread, GoStepByStep, SettleWithPending, StaySettled, KeepToLimits, CompareAfterLoads};
 
 /// The threads of every program stay within its words, are no more than it has, end within the limit of steps, and keep
-/// to their limits; the state after one more step follows from the state before it.
+/// to their limits; the state after one more step follows from the state before it; a conditional write is wanted only
+/// right after the load that saw what it expects.
 pub fn machine_law()
     ensures within { StayWithinWords }
     ensures only { HaveOnlyItsThreads }
@@ -13,4 +14,5 @@ pub fn machine_law()
     ensures pending { SettleWithPending }
     ensures stays { StaySettled }
     ensures keeps { KeepToLimits }
+    ensures compares { CompareAfterLoads }
 {}

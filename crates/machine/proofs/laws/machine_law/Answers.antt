@@ -1,6 +1,6 @@
 use Rattle.machine.proofs.laws.machine_law.Goals as goal
 use Rattle.machine.proofs.Keeping.{keeps_limits}
-use Rattle.machine.proofs.Runs.{stays_within, has_only, ends_within, counts_steps, keeps_thread, after_step, settled_pending, settled_stays}
+use Rattle.machine.proofs.Runs.{stays_within, has_only, ends_within, counts_steps, keeps_thread, after_step, settled_pending, settled_stays, compares_after_loads}
 
 pub returns : goal.returns
 returns c = record {
@@ -13,4 +13,5 @@ returns c = record {
   pending = settled_pending;
   stays = settled_stays;
   keeps = keeps_limits;
+  compares = compares_after_loads;
 }
