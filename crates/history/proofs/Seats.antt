@@ -12,6 +12,7 @@ use Rattle.replay_model.proofs.Sights.{log_length-read, log_length-quiet, has_se
 use Rattle.machine.specs.Programs.{ProgramValue, LimitsValue}
 use Rattle.machine.specs.Cores.{State, settled, took, want_or}
 use Rattle.machine.specs.Runs.{state_after, threads_of}
+use Rattle.machine.proofs.Took.{took_takes}
 use Rattle.machine.proofs.Runs.{counts_steps, after_step, settled_pending, settled_stays}
 use Rattle.history.specs.declared.seat.Seat.{Seat}
 use Rattle.history.specs.declared.seat.Sighting.{Sighting}
@@ -42,10 +43,6 @@ ran-seat p limits t steps old new is core thread accesses seen = record {
   entries = ap length seen ∙ is.entries;
 }
 
-took-thread : (s : State) (found : Option Cell) → (took s found).thread ≡ s.thread
-took-thread s None = refl
-took-thread s (Some cell) = refl
-
 -- as many pairs were seen as the log has entries, after one more step
 counts : (steps : List Step) (wanted : Want) (found : Option Cell) (old new : List Sighting) → ((word : ℕ) (tag : Tag) → has_pair word tag old ≡ has_seen word tag steps) →
     length old ≡ length (thread_log steps) → length new ≡ length old + new_pairs (word_of wanted) found old → length new ≡ length (thread_log (steps ++ record { want = wanted; found = found } ∷ []))
@@ -61,7 +58,7 @@ pub taken-seat : (p : ProgramValue) (limits : LimitsValue) (t : ℕ) (steps : Li
 taken-seat p limits t steps wanted found access old new is at takes = record {
   core =
       ap (settled p limits (is_full limits.entries (steps ++ step ∷ []))) (takes.core ∙ ap (λ (s : State). took s found) at) ∙ sym (after_step p limits t steps step);
-  thread = ap (λ (s : State). s.thread) takes.core ∙ took-thread old.core found ∙ is.thread;
+  thread = ap (λ (s : State). s.thread) takes.core ∙ (took_takes old.core found).thread ∙ is.thread;
   accesses =
       takes.accesses ∙ ap (λ (a : List Access). a ++ access ∷ []) is.accesses ∙ ap (λ (a : Access). accesses_from 1 steps ++ a ∷ []) told ∙ sym (accesses_from-push 1 steps step);
   seen = λ word tag. takes.seen.pairs word tag ∙ ap (λ (b : Bool). b || is_sight word tag (word_of wanted) found) (is.seen word tag) ∙ sym (has_seen-push word tag steps step);
