@@ -1,7 +1,7 @@
 //! What the definitions say of small programs, computed.
 #![tactic(auto)]
 
-ghost use Rattle.worked_examples.specs.Computed.{SmallestHalts, OwnWriteIsRead, InitialValueIsRead, UpdateIsLost, NoStepsAreAllowed, MessageIsPassed, ReadsAreSilent, EntriesAreSpent, AddressesWrap};
+ghost use Rattle.worked_examples.specs.Computed.{SmallestHalts, OwnWriteIsRead, InitialValueIsRead, UpdateIsLost, NoStepsAreAllowed, MessageIsPassed, ReadsAreSilent, EntriesAreSpent, AddressesWrap, ExchangesAreChained, StoresAreBlind, OtherWriterIsSeen, OtherValueIsSeen, NumbersAreComputed, JumpsAreTaken};
 
 /// The transcripts of small programs, by the definitions alone.
 pub fn computed_transcripts()
@@ -14,6 +14,12 @@ pub fn computed_transcripts()
     ensures reads { ReadsAreSilent }
     ensures one_entry { EntriesAreSpent }
     ensures addresses { AddressesWrap }
+    ensures exchanges { ExchangesAreChained }
+    ensures blind_stores { StoresAreBlind }
+    ensures other_writer { OtherWriterIsSeen }
+    ensures other_value { OtherValueIsSeen }
+    ensures arithmetic { NumbersAreComputed }
+    ensures jumps { JumpsAreTaken }
 {}
 
 #[cfg(test)]

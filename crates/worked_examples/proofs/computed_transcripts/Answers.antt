@@ -18,4 +18,10 @@ returns c = record {
   reads = refl;
   one_entry = refl;
   addresses = refl;
+  exchanges = refl;
+  blind_stores = refl;
+  other_writer = refl;
+  other_value = refl;
+  arithmetic = refl;
+  jumps = refl;
 }

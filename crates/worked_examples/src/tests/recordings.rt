@@ -1,170 +1,274 @@
-// From the bytes of an image, by an order of turns, to the bytes of the log and the transcript. The expected bytes were
-// made by hand from the worked entries, last tags and tails; the digest of a log is 32 zero bytes until the top call sets
-// it.
-use light_base::Memory;
-use log_file::write_log;
-use machine::{Limits, read_image};
-use recorder::record_turns;
-use std::alloc::Global;
+// Programs as text, recorded by an order of turns: the entries and the last tags of the log, and the transcript. The
+// expected values are worked out by hand.
+use assembler::assemble;
+use light_base::{Memory, Tag};
+use machine::Limits;
+use recorder::{Recorded, record_turns};
+use replay_model::Entry;
+use std::alloc::{AllocError, Global};
 use std::process::Abort;
 use std::test::Fail;
 use transcript::text_of;
 
-// A thread reads the initial value, and then another stores to the word.
-const INITIAL_VALUE: [u8; 47] = [
-    0x4c, 0x49, 0x4d, 0x31, 0x02, 0x00, 0x01, 0x00, 0x02, 0x00, 0x02, 0x00, 0x00, 0x00, 0x05, 0x11,
-    0x01, 0x00, 0x00, 0x00, 0x00, 0x00, 0x00, 0x10, 0x01, 0x00, 0x00, 0x00, 0x00, 0x00, 0x00, 0x01,
-    0x01, 0x00, 0x00, 0x00, 0x00, 0x00, 0x09, 0x12, 0x01, 0x00, 0x00, 0x00, 0x00, 0x00, 0x00,
-];
+// A program, its limits, an order of turns, and what they lead to. In texts a slash stands for the end of a line. An
+// entry is told as its word, its source, its first and its last step, and the entries of a thread end with a slash.
+#[derive(Clone, Copy)]
+struct Row {
+    program: &'static str,
+    limits: (u32, u32, u32),
+    order: &'static [u8],
+    entries: &'static str,
+    lasts: &'static str,
+    text: &'static str,
+}
 
-const INITIAL_VALUE_LOG: [u8; 103] = [
-    0x4c, 0x4c, 0x47, 0x31, 0x02, 0x00, 0x01, 0x00, 0x00, 0x00, 0x00, 0x00, 0x00, 0x00, 0x00, 0x00,
-    0x00, 0x00, 0x00, 0x00, 0x00, 0x00, 0x00, 0x00, 0x00, 0x00, 0x00, 0x00, 0x00, 0x00, 0x00, 0x00,
-    0x00, 0x00, 0x00, 0x00, 0x00, 0x00, 0x00, 0x00, 0x00, 0x00, 0x64, 0x00, 0x00, 0x00, 0x64, 0x00,
-    0x00, 0x00, 0x64, 0x00, 0x00, 0x00, 0x00, 0x00, 0x00, 0x00, 0x00, 0x01, 0x00, 0x00, 0x00, 0x02,
-    0x00, 0x00, 0x00, 0x01, 0x00, 0x00, 0x00, 0x00, 0x00, 0x00, 0x00, 0x00, 0x01, 0x00, 0x00, 0x00,
-    0x02, 0x00, 0x00, 0x00, 0x00, 0x20, 0x00, 0x00, 0x01, 0x00, 0x00, 0x00, 0x00, 0x00, 0x00, 0x00,
-    0x00, 0x00, 0x01, 0x00, 0x00, 0x00, 0x01,
-];
+const MOST: (u32, u32, u32) = (100, 100, 100);
+
+// A thread reads what it wrote itself.
+const OWN_WRITE: Row = Row {
+    program: ".words 1/.thread/set r1 7/store r1 r0 0/load r2 r0 0/out r2",
+    limits: MOST,
+    order: &[],
+    entries: "0 0:1 2 2;/",
+    lasts: "0:1;",
+    text: "thread 0 halted steps 2 instr 4/out 7/word 0 7/",
+};
+
+// A thread reads the initial value, and then another stores to the word.
+const INITIAL_VALUE: Row = Row {
+    program: ".words 1/.init 0 5/.thread/load r1 r0 0/out r1/.thread/set r1 9/store r1 r0 0",
+    limits: MOST,
+    order: &[0, 1],
+    entries: "0 initial 1 1;//",
+    lasts: "1:1;",
+    text: "thread 0 halted steps 1 instr 2/out 5/thread 1 halted steps 1 instr 2/word 0 9/",
+};
 
 // Two threads each add 1 to a word by a load and a store, and one update is lost.
-const LOST_UPDATE: [u8; 79] = [
-    0x4c, 0x49, 0x4d, 0x31, 0x02, 0x00, 0x01, 0x00, 0x04, 0x00, 0x04, 0x00, 0x00, 0x00, 0x00, 0x11,
-    0x01, 0x00, 0x00, 0x00, 0x00, 0x00, 0x00, 0x0b, 0x01, 0x01, 0x00, 0x00, 0x00, 0x00, 0x01, 0x12,
-    0x01, 0x00, 0x00, 0x00, 0x00, 0x00, 0x00, 0x10, 0x01, 0x00, 0x00, 0x00, 0x00, 0x00, 0x00, 0x11,
-    0x01, 0x00, 0x00, 0x00, 0x00, 0x00, 0x00, 0x0b, 0x01, 0x01, 0x00, 0x00, 0x00, 0x00, 0x01, 0x12,
-    0x01, 0x00, 0x00, 0x00, 0x00, 0x00, 0x00, 0x10, 0x01, 0x00, 0x00, 0x00, 0x00, 0x00, 0x00,
-];
-
-const LOST_UPDATE_LOG: [u8; 117] = [
-    0x4c, 0x4c, 0x47, 0x31, 0x02, 0x00, 0x01, 0x00, 0x00, 0x00, 0x00, 0x00, 0x00, 0x00, 0x00, 0x00,
-    0x00, 0x00, 0x00, 0x00, 0x00, 0x00, 0x00, 0x00, 0x00, 0x00, 0x00, 0x00, 0x00, 0x00, 0x00, 0x00,
-    0x00, 0x00, 0x00, 0x00, 0x00, 0x00, 0x00, 0x00, 0x00, 0x00, 0x64, 0x00, 0x00, 0x00, 0x64, 0x00,
-    0x00, 0x00, 0x64, 0x00, 0x00, 0x00, 0x00, 0x00, 0x00, 0x00, 0x00, 0x02, 0x00, 0x00, 0x00, 0x04,
-    0x00, 0x00, 0x00, 0x01, 0x00, 0x00, 0x00, 0x00, 0x00, 0x00, 0x00, 0x00, 0x02, 0x00, 0x00, 0x00,
-    0x04, 0x00, 0x00, 0x00, 0x01, 0x20, 0x00, 0x00, 0x02, 0x00, 0x00, 0x00, 0x00, 0x00, 0x00, 0x00,
-    0x00, 0x00, 0x01, 0x00, 0x00, 0x00, 0x01, 0x00, 0x00, 0x00, 0x00, 0x00, 0x00, 0x00, 0x00, 0x00,
-    0x01, 0x00, 0x00, 0x00, 0x01,
-];
+const LOST_UPDATE: Row = Row {
+    program: ".words 1/.thread/load r1 r0 0/addi r1 r1 1/store r1 r0 0/out r1/.thread/load r1 r0 0/addi r1 r1 1/store r1 r0 0/out r1",
+    limits: MOST,
+    order: &[0, 1, 0, 1],
+    entries: "0 initial 1 1;/0 initial 1 1;/",
+    lasts: "1:2;",
+    text: "thread 0 halted steps 2 instr 4/out 1/thread 1 halted steps 2 instr 4/out 1/word 0 1/",
+};
 
 // A thread writes a value and then a flag; another has looked twice in vain, and then reads both.
-const MESSAGE_PASSING: [u8; 83] = [
-    0x4c, 0x49, 0x4d, 0x31, 0x02, 0x00, 0x02, 0x00, 0x04, 0x00, 0x04, 0x00, 0x00, 0x00, 0x00, 0x00,
-    0x00, 0x00, 0x00, 0x01, 0x01, 0x00, 0x00, 0x00, 0x00, 0x00, 0x2a, 0x12, 0x01, 0x00, 0x00, 0x00,
-    0x00, 0x00, 0x00, 0x01, 0x02, 0x00, 0x00, 0x00, 0x00, 0x00, 0x01, 0x12, 0x02, 0x00, 0x00, 0x00,
-    0x00, 0x00, 0x01, 0x11, 0x01, 0x00, 0x00, 0x00, 0x00, 0x00, 0x01, 0x0d, 0x01, 0x00, 0x00, 0x00,
-    0x00, 0x00, 0x00, 0x11, 0x02, 0x00, 0x00, 0x00, 0x00, 0x00, 0x00, 0x10, 0x02, 0x00, 0x00, 0x00,
-    0x00, 0x00, 0x00,
-];
-
-const MESSAGE_PASSING_LOG: [u8; 135] = [
-    0x4c, 0x4c, 0x47, 0x31, 0x02, 0x00, 0x02, 0x00, 0x00, 0x00, 0x00, 0x00, 0x00, 0x00, 0x00, 0x00,
-    0x00, 0x00, 0x00, 0x00, 0x00, 0x00, 0x00, 0x00, 0x00, 0x00, 0x00, 0x00, 0x00, 0x00, 0x00, 0x00,
-    0x00, 0x00, 0x00, 0x00, 0x00, 0x00, 0x00, 0x00, 0x00, 0x00, 0x64, 0x00, 0x00, 0x00, 0x64, 0x00,
-    0x00, 0x00, 0x64, 0x00, 0x00, 0x00, 0x00, 0x00, 0x00, 0x00, 0x00, 0x02, 0x00, 0x00, 0x00, 0x04,
-    0x00, 0x00, 0x00, 0x00, 0x00, 0x00, 0x00, 0x00, 0x00, 0x00, 0x00, 0x00, 0x04, 0x00, 0x00, 0x00,
-    0x08, 0x00, 0x00, 0x00, 0x03, 0x10, 0x00, 0x00, 0x01, 0x10, 0x00, 0x00, 0x02, 0x00, 0x01, 0x00,
-    0x00, 0x00, 0x00, 0x00, 0x00, 0x00, 0x01, 0x00, 0x00, 0x00, 0x02, 0x00, 0x01, 0x10, 0x00, 0x00,
-    0x02, 0x00, 0x00, 0x00, 0x03, 0x00, 0x00, 0x00, 0x03, 0x00, 0x00, 0x10, 0x00, 0x00, 0x01, 0x00,
-    0x00, 0x00, 0x04, 0x00, 0x00, 0x00, 0x04,
-];
+const MESSAGE_PASSING: Row = Row {
+    program: ".words 2/.thread/set r1 42/store r1 r0 0/set r2 1/store r2 r0 1/.thread/wait: load r1 r0 1/jeq r1 r0 wait/load r2 r0 0/out r2",
+    limits: MOST,
+    order: &[1, 1, 0, 0, 1, 1],
+    entries: "/1 initial 1 2;1 0:2 3 3;0 0:1 4 4;/",
+    lasts: "0:1;0:2;",
+    text: "thread 0 halted steps 2 instr 4/thread 1 halted steps 4 instr 8/out 42/word 0 42/word 1 1/",
+};
 
 // A thread reads a word, another word, and the first again.
-const READ_BETWEEN: [u8; 41] = [
-    0x4c, 0x49, 0x4d, 0x31, 0x01, 0x00, 0x02, 0x00, 0x03, 0x00, 0x00, 0x00, 0x00, 0x00, 0x00, 0x00,
-    0x00, 0x11, 0x01, 0x00, 0x00, 0x00, 0x00, 0x00, 0x00, 0x11, 0x02, 0x00, 0x00, 0x00, 0x00, 0x00,
-    0x01, 0x11, 0x03, 0x00, 0x00, 0x00, 0x00, 0x00, 0x00,
-];
+const READ_BETWEEN: Row = Row {
+    program: ".words 2/.thread/load r1 r0 0/load r2 r0 1/load r3 r0 0",
+    limits: MOST,
+    order: &[],
+    entries: "0 initial 1 3;1 initial 2 2;/",
+    lasts: "initial;initial;",
+    text: "thread 0 halted steps 3 instr 3/",
+};
 
-const READ_BETWEEN_LOG: [u8; 104] = [
-    0x4c, 0x4c, 0x47, 0x31, 0x01, 0x00, 0x02, 0x00, 0x00, 0x00, 0x00, 0x00, 0x00, 0x00, 0x00, 0x00,
-    0x00, 0x00, 0x00, 0x00, 0x00, 0x00, 0x00, 0x00, 0x00, 0x00, 0x00, 0x00, 0x00, 0x00, 0x00, 0x00,
-    0x00, 0x00, 0x00, 0x00, 0x00, 0x00, 0x00, 0x00, 0x00, 0x00, 0x64, 0x00, 0x00, 0x00, 0x64, 0x00,
-    0x00, 0x00, 0x64, 0x00, 0x00, 0x00, 0x00, 0x00, 0x00, 0x00, 0x00, 0x03, 0x00, 0x00, 0x00, 0x03,
-    0x00, 0x00, 0x00, 0x02, 0x00, 0x00, 0x00, 0x00, 0x00, 0x00, 0x00, 0x00, 0x00, 0x00, 0x00, 0x00,
-    0x00, 0x00, 0x00, 0x00, 0x00, 0x01, 0x00, 0x00, 0x00, 0x03, 0x00, 0x01, 0x00, 0x00, 0x00, 0x00,
-    0x00, 0x00, 0x00, 0x02, 0x00, 0x00, 0x00, 0x02,
-];
+// Three threads exchange a number for what stands in the word: each takes what the one before left.
+const EXCHANGE_CHAIN: Row = Row {
+    program: ".words 1/.thread/set r1 1/xchg r1 r0 0/out r1/.thread/set r1 2/xchg r1 r0 0/out r1/.thread/set r1 3/xchg r1 r0 0/out r1",
+    limits: MOST,
+    order: &[0, 1, 2],
+    entries: "0 initial 1 1;/0 0:1 1 1;/0 1:1 1 1;/",
+    lasts: "2:1;",
+    text: "thread 0 halted steps 1 instr 3/out 0/thread 1 halted steps 1 instr 3/out 1/thread 2 halted steps 1 instr 3/out 2/word 0 3/",
+};
+
+// Nobody reads what two threads store.
+const BLIND_STORES: Row = Row {
+    program: ".words 1/.thread/load r1 r0 0/out r1/.thread/set r1 5/store r1 r0 0/.thread/set r1 6/store r1 r0 0",
+    limits: MOST,
+    order: &[0, 2, 1],
+    entries: "0 initial 1 1;///",
+    lasts: "1:1;",
+    text: "thread 0 halted steps 1 instr 2/out 0/thread 1 halted steps 1 instr 2/thread 2 halted steps 1 instr 2/word 0 5/",
+};
+
+// Between the two steps of a compare-exchange another thread writes the same value: it does not win.
+const OTHER_WRITER: Row = Row {
+    program: ".words 1/.init 0 5/.thread/set r1 5/set r2 8/cas r1 r0 r2 0/out r15/out r1/.thread/set r1 5/store r1 r0 0",
+    limits: MOST,
+    order: &[0, 1, 0],
+    entries: "0 initial 1 1;0 1:1 2 2;//",
+    lasts: "1:1;",
+    text: "thread 0 halted steps 2 instr 5/out 2/out 5/thread 1 halted steps 1 instr 2/word 0 5/",
+};
+
+// A compare-exchange that finds another value at once takes one step.
+const OTHER_VALUE: Row = Row {
+    program: ".words 1/.init 0 4/.thread/set r1 5/set r2 8/cas r1 r0 r2 0/out r15/out r1",
+    limits: MOST,
+    order: &[],
+    entries: "0 initial 1 1;/",
+    lasts: "initial;",
+    text: "thread 0 halted steps 1 instr 5/out 0/out 4/word 0 4/",
+};
+
+// The same, where nobody else writes: it wins, and reads once more what it saw.
+const COMPARE_EXCHANGE_WINS: Row = Row {
+    program: ".words 1/.init 0 5/.thread/set r1 5/set r2 8/cas r1 r0 r2 0/out r15/out r1",
+    limits: MOST,
+    order: &[],
+    entries: "0 initial 1 2;/",
+    lasts: "0:2;",
+    text: "thread 0 halted steps 2 instr 5/out 1/out 5/word 0 8/",
+};
+
+// The limits end a compare-exchange between its steps: it is not counted, and leaves its registers.
+const HALF_OF_A_COMPARE_EXCHANGE: Row = Row {
+    program: ".words 1/.init 0 5/.thread/set r1 5/set r2 8/cas r1 r0 r2 0/out r15",
+    limits: (1, 100, 100),
+    order: &[],
+    entries: "0 initial 1 1;/",
+    lasts: "initial;",
+    text: "thread 0 steps-spent steps 1 instr 2/word 0 5/",
+};
+
+// So does a full log.
+const ENTRIES_BETWEEN: Row = Row {
+    program: ".words 1/.init 0 5/.thread/set r1 5/set r2 8/cas r1 r0 r2 0/out r15",
+    limits: (100, 100, 1),
+    order: &[],
+    entries: "0 initial 1 1;/",
+    lasts: "initial;",
+    text: "thread 0 entries-full steps 1 instr 2/word 0 5/",
+};
+
+// An address past the words, and one that wraps round to 0.
+const ADDRESSES: Row = Row {
+    program: ".words 4096/.thread/load r1 r0 4096/.thread/set r1 4294967295/load r2 r1 1/out r2",
+    limits: MOST,
+    order: &[],
+    entries: "/0 initial 1 1;/",
+    lasts: "",
+    text: "thread 0 bad-address 4096 steps 0 instr 0/thread 1 halted steps 1 instr 3/out 0/",
+};
 
 // A thread may have one entry, and ends before it reads another word.
-const ONE_ENTRY: [u8; 41] = [
-    0x4c, 0x49, 0x4d, 0x31, 0x01, 0x00, 0x02, 0x00, 0x03, 0x00, 0x00, 0x00, 0x00, 0x00, 0x00, 0x00,
-    0x00, 0x11, 0x01, 0x00, 0x00, 0x00, 0x00, 0x00, 0x00, 0x12, 0x01, 0x00, 0x00, 0x00, 0x00, 0x00,
-    0x01, 0x11, 0x02, 0x00, 0x00, 0x00, 0x00, 0x00, 0x01,
+const ONE_ENTRY: Row = Row {
+    program: ".words 2/.thread/load r1 r0 0/store r1 r0 1/load r2 r0 1",
+    limits: (100, 100, 1),
+    order: &[],
+    entries: "0 initial 1 1;/",
+    lasts: "initial;0:2;",
+    text: "thread 0 entries-full steps 2 instr 2/",
+};
+
+// Each operation on two registers, 7 and 35.
+const ARITHMETIC: Row = Row {
+    program: ".words 1/.thread/set r1 7/set r2 35/add r3 r1 r2/out r3/sub r3 r1 r2/out r3/mul r3 r1 r2/out r3/and r3 r1 r2/out r3/or r3 r1 r2/out r3/xor r3 r1 r2/out r3/shl r3 r1 r2/out r3/shr r3 r1 r2/out r3/mov r4 r2/out r4",
+    limits: MOST,
+    order: &[],
+    entries: "/",
+    lasts: "initial;",
+    text: "thread 0 halted steps 0 instr 20/out 42/out 4294967268/out 245/out 3/out 39/out 36/out 56/out 0/out 35/",
+};
+
+// The jumps that are taken pass an instruction over; the others do not.
+const JUMPS: Row = Row {
+    program: ".words 1/.thread/set r1 1/jlt r0 r1 a/out r0/a: jlt r1 r1 b/out r1/b: jne r0 r1 c/out r0/c: jne r1 r1 d/out r1/d: jmp e/out r0/e:",
+    limits: MOST,
+    order: &[],
+    entries: "/",
+    lasts: "initial;",
+    text: "thread 0 halted steps 0 instr 8/out 1/out 1/",
+};
+
+const ROWS: [Row; 16] = [
+    OWN_WRITE,
+    INITIAL_VALUE,
+    LOST_UPDATE,
+    MESSAGE_PASSING,
+    READ_BETWEEN,
+    EXCHANGE_CHAIN,
+    BLIND_STORES,
+    OTHER_WRITER,
+    OTHER_VALUE,
+    COMPARE_EXCHANGE_WINS,
+    HALF_OF_A_COMPARE_EXCHANGE,
+    ENTRIES_BETWEEN,
+    ADDRESSES,
+    ONE_ENTRY,
+    ARITHMETIC,
+    JUMPS,
 ];
 
-const ONE_ENTRY_LOG: [u8; 90] = [
-    0x4c, 0x4c, 0x47, 0x31, 0x01, 0x00, 0x02, 0x00, 0x00, 0x00, 0x00, 0x00, 0x00, 0x00, 0x00, 0x00,
-    0x00, 0x00, 0x00, 0x00, 0x00, 0x00, 0x00, 0x00, 0x00, 0x00, 0x00, 0x00, 0x00, 0x00, 0x00, 0x00,
-    0x00, 0x00, 0x00, 0x00, 0x00, 0x00, 0x00, 0x00, 0x00, 0x00, 0x64, 0x00, 0x00, 0x00, 0x64, 0x00,
-    0x00, 0x00, 0x01, 0x04, 0x00, 0x00, 0x00, 0x00, 0x00, 0x00, 0x00, 0x02, 0x00, 0x00, 0x00, 0x02,
-    0x00, 0x00, 0x00, 0x01, 0x00, 0x00, 0x00, 0x00, 0x10, 0x00, 0x00, 0x02, 0x00, 0x00, 0x00, 0x00,
-    0x00, 0x00, 0x00, 0x00, 0x00, 0x01, 0x00, 0x00, 0x00, 0x01,
-];
+// The bytes of a text whose slashes end lines.
+fn lines_of(alloc: Global, text: &str) -> Result<Vec<u8>, AllocError> {
+    let mut bytes = Vec::new(alloc);
+    for b in text.as_bytes() {
+        bytes.push(if *b == b'/' { b'\n' } else { *b })?;
+    }
+    Ok(bytes)
+}
 
-// Records the image's program with these turns, and compares the log's bytes and the transcript.
-fn compare(
-    rt: &impl Abort,
-    alloc: Global,
-    image: &[u8],
-    most_entries: u32,
-    order: &[u8],
-    log: &[u8],
-    text: &str,
-) -> Result<(), Fail> {
-    let program = read_image(alloc, image).map_err(|_| Memory)?;
-    let limits = Limits::new(100, 100, most_entries).ok_or("these are limits")?;
+fn source_of(alloc: Global, tag: Tag) -> Result<String, AllocError> {
+    match tag.writer() {
+        Some(event) => format!(in alloc; "{}:{}", event.thread, event.step),
+        None => format!(in alloc; "initial"),
+    }
+}
+
+fn entry_of(alloc: Global, entry: &Entry) -> Result<String, AllocError> {
+    let source = source_of(alloc, entry.source)?;
+    format!(in alloc; "{} {source} {} {};", entry.word, entry.first, entry.last)
+}
+
+// The entries of all threads as a row tells them.
+fn entries_of(alloc: Global, recorded: &Recorded) -> Result<String, AllocError> {
+    let mut told = String::new(alloc);
+    for thread in recorded.log().threads() {
+        for entry in thread.entries() {
+            told.push_str(entry_of(alloc, entry)?.as_str())?;
+        }
+        told.push('/')?;
+    }
+    Ok(told)
+}
+
+// The last tags, as a row tells them.
+fn lasts_of(alloc: Global, recorded: &Recorded) -> Result<String, AllocError> {
+    let mut told = String::new(alloc);
+    for tag in recorded.log().finals() {
+        told.push_str(source_of(alloc, *tag)?.as_str())?;
+        told.push(';')?;
+    }
+    Ok(told)
+}
+
+fn recorded(rt: &impl Abort, alloc: Global, row: &Row) -> Result<Recorded, Fail> {
+    let text = lines_of(alloc, row.program)?;
+    assert!(rt; text.len() < 1_000_000);
+    let program = assemble(alloc, &text).map_err(|_| Memory)?;
+    let (steps, instr, entries) = row.limits;
+    let limits = Limits::new(steps, instr, entries).ok_or("these are limits")?;
     let count = program.threads_count();
-    assert!(rt; order.iter().all(|thread| usize::from(*thread) < count));
-    let recorded = record_turns(alloc, &program, &limits, order)?;
-    let bytes = write_log(alloc, recorded.log())?;
-    assert_eq!(rt; bytes.as_slice(), log);
-    let printed = text_of(alloc, recorded.reports(), recorded.finals())?;
-    assert_eq!(rt; printed.as_slice(), text.as_bytes());
-    Ok(())
+    assert!(rt; row.order.iter().all(|thread| usize::from(*thread) < count));
+    Ok(record_turns(alloc, &program, &limits, row.order)?)
 }
 
 #[test]
-fn images_are_recorded_by_turns(rt: HostRuntime) -> Result<(), Fail> {
+fn programs_are_recorded_by_turns(rt: HostRuntime) -> Result<(), Fail> {
     let alloc = rt.alloc();
-    for (image, most_entries, order, log, text) in [
-        (
-            INITIAL_VALUE.as_slice(),
-            100,
-            [0, 1].as_slice(),
-            INITIAL_VALUE_LOG.as_slice(),
-            "thread 0 halted steps 1 instr 2\nout 5\nthread 1 halted steps 1 instr 2\nword 0 9\n",
-        ),
-        (
-            LOST_UPDATE.as_slice(),
-            100,
-            [0, 1, 0, 1].as_slice(),
-            LOST_UPDATE_LOG.as_slice(),
-            "thread 0 halted steps 2 instr 4\nout 1\nthread 1 halted steps 2 instr 4\nout 1\nword 0 1\n",
-        ),
-        (
-            MESSAGE_PASSING.as_slice(),
-            100,
-            [1, 1, 0, 0, 1, 1].as_slice(),
-            MESSAGE_PASSING_LOG.as_slice(),
-            "thread 0 halted steps 2 instr 4\nthread 1 halted steps 4 instr 8\nout 42\nword 0 42\nword 1 1\n",
-        ),
-        (
-            READ_BETWEEN.as_slice(),
-            100,
-            [].as_slice(),
-            READ_BETWEEN_LOG.as_slice(),
-            "thread 0 halted steps 3 instr 3\n",
-        ),
-        (
-            ONE_ENTRY.as_slice(),
-            1,
-            [].as_slice(),
-            ONE_ENTRY_LOG.as_slice(),
-            "thread 0 entries-full steps 2 instr 2\n",
-        ),
-    ] {
-        compare(&rt, alloc, image, most_entries, order, log, text)?;
+    for row in &ROWS {
+        let recorded = recorded(&rt, alloc, row)?;
+        assert_eq!(rt; entries_of(alloc, &recorded)?.as_str(), row.entries);
+        if !row.lasts.is_empty() {
+            assert_eq!(rt; lasts_of(alloc, &recorded)?.as_str(), row.lasts);
+        }
+        let text = text_of(alloc, recorded.reports(), recorded.finals())?;
+        let expected = lines_of(alloc, row.text)?;
+        assert_eq!(rt; text.as_slice(), expected.as_slice());
     }
     Ok(())
 }
