@@ -4,7 +4,8 @@ use Rattle.std.specs.Option.{option_map_or}
 use Rattle.std.specs.Char.{to_ascii_lowercase}
 use Rattle.std.specs.List.{list_all}
 use Rattle.machine.specs.declared.program.Op.{Op}
-use Rattle.assembler.specs.Mnemonics.{mnemonic_of, every_op}
+use Rattle.machine.specs.Programs.{every_op}
+use Rattle.assembler.specs.Mnemonics.{mnemonic_of}
 pub use Rattle.assembler.specs.declared.head.Head.{Head}
 use Rattle.assembler.specs.declared.head.Head.TheVariants as head
 

@@ -3,7 +3,7 @@ ghost use Rattle.std.specs.Prelude.{◌≡◌, ◌++◌, length, flat_map, IfOk,
 ghost use Rattle.assembler.specs.Canonical.{spaced, line_end, words_line, init_text, init_lines, register_text, number_text, instr_line, thread_text, canonical};
 ghost use Rattle.std.specs.Prelude.{decimal};
 
-use crate::mnemonic::{mnemonic, uses_a, uses_b, uses_c, uses_imm};
+use crate::mnemonic::mnemonic;
 use light_base::{Memory, put_decimal};
 use machine::{Instr, Program};
 use std::alloc::Global;
@@ -73,10 +73,10 @@ fn put_instr(out: &mut Vec<u8>, instr: &Instr) -> Result<(), Memory>
 {
     let op = instr.op;
     out.extend_from_slice(mnemonic(op))?;
-    put_register(out, uses_a(op), instr.a)?;
-    put_register(out, uses_b(op), instr.b)?;
-    put_register(out, uses_c(op), instr.c)?;
-    put_imm(out, uses_imm(op), instr.imm)?;
+    put_register(out, op.uses_a(), instr.a)?;
+    put_register(out, op.uses_b(), instr.b)?;
+    put_register(out, op.uses_c(), instr.c)?;
+    put_imm(out, op.uses_imm(), instr.imm)?;
     out.push(b'\n')?;
     Ok(())
 }

@@ -1,19 +1,8 @@
-// The table of mnemonics, and which operands an operation has. All that depends on the operations stands here.
+// The table of mnemonics.
+ghost use Rattle.assembler.specs.Mnemonics.{mnemonic_of};
 ghost use Rattle.std.specs.Prelude.{◌≡◌};
-ghost use Rattle.machine.specs.Programs.{uses_a, uses_b, uses_c, uses_imm, jumps};
-ghost use Rattle.assembler.specs.Mnemonics.{mnemonic_of, every_op};
 
 use machine::Op;
-
-pub const OPS: [Op; 7] = [
-    Op::Halt,
-    Op::Const,
-    Op::Addi,
-    Op::Jeq,
-    Op::Out,
-    Op::Load,
-    Op::Store,
-];
 
 /// The word for an operation.
 pub fn mnemonic(op: Op) -> &'static [u8]
@@ -22,47 +11,24 @@ pub fn mnemonic(op: Op) -> &'static [u8]
     match op {
         Op::Halt => b"halt",
         Op::Const => b"set",
+        Op::Mov => b"mov",
+        Op::Add => b"add",
+        Op::Sub => b"sub",
+        Op::Mul => b"mul",
+        Op::And => b"and",
+        Op::Or => b"or",
+        Op::Xor => b"xor",
+        Op::Shl => b"shl",
+        Op::Shr => b"shr",
         Op::Addi => b"addi",
+        Op::Jmp => b"jmp",
         Op::Jeq => b"jeq",
+        Op::Jne => b"jne",
+        Op::Jlt => b"jlt",
         Op::Out => b"out",
         Op::Load => b"load",
         Op::Store => b"store",
+        Op::Xchg => b"xchg",
+        Op::Cas => b"cas",
     }
-}
-
-/// Whether the operation has the operand a.
-pub fn uses_a(op: Op) -> bool
-    ensures { result ≡ uses_a op }
-{
-    !matches!(op, Op::Halt)
-}
-
-/// Whether the operation has the operand b.
-pub fn uses_b(op: Op) -> bool
-    ensures { result ≡ uses_b op }
-{
-    matches!(op, Op::Addi | Op::Jeq | Op::Load | Op::Store)
-}
-
-/// Whether the operation has the operand c.
-pub fn uses_c(op: Op) -> bool
-    ensures { result ≡ uses_c op }
-{
-    match op {
-        Op::Halt | Op::Const | Op::Addi | Op::Jeq | Op::Out | Op::Load | Op::Store => false,
-    }
-}
-
-/// Whether the operation has the operand imm.
-pub fn uses_imm(op: Op) -> bool
-    ensures { result ≡ uses_imm op }
-{
-    !matches!(op, Op::Halt | Op::Out)
-}
-
-/// Whether imm is a place in the code.
-pub fn jumps(op: Op) -> bool
-    ensures { result ≡ jumps op }
-{
-    matches!(op, Op::Jeq)
 }

@@ -7,7 +7,6 @@ ghost use Rattle.assembler.specs.Seen.{scope_seen};
 
 use crate::asm_fault::AsmKind;
 use crate::lines::next_token;
-use crate::mnemonic::{jumps, uses_a, uses_b, uses_c, uses_imm};
 use crate::numerals::number;
 use crate::registers::Registers;
 use crate::scope::Scope;
@@ -34,9 +33,9 @@ fn take_register(used: bool, tokens: &[u8]) -> Option<(u8, &[u8])>
 fn registers(op: Op, tokens: &[u8]) -> Option<Registers<'_>>
     ensures { option_map registers_seen result ≡ registers_of op (tokens_of tokens.now) }
 {
-    let (a, rest) = take_register(uses_a(op), tokens)?;
-    let (b, rest) = take_register(uses_b(op), rest)?;
-    let (c, rest) = take_register(uses_c(op), rest)?;
+    let (a, rest) = take_register(op.uses_a(), tokens)?;
+    let (b, rest) = take_register(op.uses_b(), rest)?;
+    let (c, rest) = take_register(op.uses_c(), rest)?;
     Some(Registers { a, b, c, rest })
 }
 
@@ -97,8 +96,8 @@ pub fn read_instr(op: Op, scope: &Scope<'_>, tokens: &[u8]) -> Result<Instr, Asm
     match registers(op, tokens) {
         None => Err(AsmKind::Operand),
         Some(Registers { a, b, c, rest }) => match last_operand(
-            uses_imm(op),
-            jumps(op),
+            op.uses_imm(),
+            op.jumps(),
             scope,
             rest,
         ) {

@@ -5,8 +5,8 @@ ghost use Rattle.assembler.specs.Words.{begins_name, continues_name, is_name, re
 ghost use Rattle.std.specs.Char.{to_ascii_lowercase};
 
 use crate::head::Head;
-use crate::mnemonic::{OPS, mnemonic};
-use machine::Op;
+use crate::mnemonic::mnemonic;
+use machine::{OPS, Op};
 
 fn begins_name(b: u8) -> bool
     ensures { result ≡ begins_name b }

@@ -11,5 +11,5 @@ pub use crate::cores::{Core, RunReport};
 pub use crate::image::{images_differ, read_image};
 pub use crate::image_fault::{ImageFault, ImageKind};
 pub use crate::laws::machine_law;
-pub use crate::program::{Instr, Limits, Op, Program};
+pub use crate::program::{Instr, Limits, OPS, Op, Program};
 pub use replay_model::{Access, End, Want};
