@@ -26,11 +26,11 @@ lengths_spelled : (codes : List (List Instr)) → flat_map length_image codes �
 lengths_spelled [] = refl
 lengths_spelled (code ∷ codes) = ap (λ (xs : List ℕ). to_be_bytes w16 (length code) ++ xs) (lengths_spelled codes)
 
-length-lengths_image : (codes : List (List Instr)) → length (flat_map length_image codes) ≡ 2 * length codes
+pub length-lengths_image : (codes : List (List Instr)) → length (flat_map length_image codes) ≡ 2 * length codes
 length-lengths_image [] = refl
 length-lengths_image (code ∷ codes) = omega (arith, length-append (length_image code) (flat_map length_image codes), length-lengths_image codes)
 
-length-words_image : (words : List ℕ) → length (flat_map (to_be_bytes w32) words) ≡ 4 * length words
+pub length-words_image : (words : List ℕ) → length (flat_map (to_be_bytes w32) words) ≡ 4 * length words
 length-words_image [] = refl
 length-words_image (word ∷ words) = omega (arith, length-append (to_be_bytes w32 word) (flat_map (to_be_bytes w32) words), length-words_image words)
 

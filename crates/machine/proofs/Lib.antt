@@ -13,4 +13,5 @@ pub mod ImageNumbers
 pub mod ImageInstrs
 pub mod Keeping
 pub mod ImageLaws
+pub mod ImageWriting
 pub mod ImageExamples

@@ -4,12 +4,14 @@
 mod cores;
 mod image;
 mod image_fault;
+mod image_writing;
 mod laws;
 mod program;
 
 pub use crate::cores::{Core, RunReport};
 pub use crate::image::{images_differ, read_image};
 pub use crate::image_fault::{ImageFault, ImageKind};
+pub use crate::image_writing::write_image;
 pub use crate::laws::machine_law;
 pub use crate::program::{Instr, Limits, OPS, Op, Program};
 pub use replay_model::{Access, End, Want};
