@@ -1,15 +1,15 @@
 .PHONY: run test
 
-# The shipped example that `make run` records.
+# The shipped example that `make run` assembles and records: a name of examples/, as in `make run EXAMPLE=aba`.
 EXAMPLE = lost_update
-LIGHT = crates/light_cli/out/light_cli
-LOG = crates/light_cli/out/$(EXAMPLE).log
+OUT = crates/light_cli/out
+LIGHT = $(OUT)/light_cli
 
-# Proves and builds the program, records the example, and shows its transcript and the size of its log.
+# Proves and builds the program, assembles the example, records it, and shows its transcript and the size of its log.
 run:
-	cd crates/light_cli && rt run -- run $(CURDIR)/examples/$(EXAMPLE).img 100 100 100 >/dev/null
-	$(LIGHT) record examples/$(EXAMPLE).img $(LOG) 100 100 100
-	@echo "log: $$(wc -c < $(LOG)) bytes in $(LOG)"
+	cd crates/light_cli && rt run -- asm $(CURDIR)/examples/$(EXAMPLE).asm $(CURDIR)/$(OUT)/$(EXAMPLE).img
+	$(LIGHT) record $(OUT)/$(EXAMPLE).img $(OUT)/$(EXAMPLE).log 100 100 100
+	@echo "log: $$(wc -c < $(OUT)/$(EXAMPLE).log) bytes in $(OUT)/$(EXAMPLE).log"
 
 # The gate: proves every crate, tries the must-fail edits, runs the tests and the program.
 test:

@@ -15,7 +15,12 @@ import time
 
 HERE = os.path.dirname(os.path.abspath(__file__))
 PROGRAM = os.path.join(HERE, "..", "crates", "light_cli", "out", "light_cli")
-CODES = {"halt": 0, "set": 1, "addi": 11, "jeq": 13, "out": 16, "load": 17, "store": 18}
+CODES = {
+    name: code
+    for code, name in enumerate(
+        "halt set mov add sub mul and or xor shl shr addi jmp jeq jne jlt out load store xchg cas".split()
+    )
+}
 
 
 def image(words, threads):
@@ -24,20 +29,40 @@ def image(words, threads):
     out += b"".join(struct.pack(">H", len(code)) for code in threads)
     out += b"".join(struct.pack(">I", word) for word in words)
     for code in threads:
-        for name, a, b, imm in code:
-            out += struct.pack(">BBBBI", CODES[name], a, b, 0, imm)
+        for name, a, b, c, imm in code:
+            out += struct.pack(">BBBBI", CODES[name], a, b, c, imm)
     return out
 
 
 # counts up for ever, in registers alone
-COUNTER = [("addi", 1, 1, 1), ("jeq", 0, 0, 0)]
+COUNTER = [("addi", 1, 1, 0, 1), ("jeq", 0, 0, 0, 0)]
+# computes for ever, with each kind of local instruction but the output
+COMPUTER = [
+    ("set", 1, 0, 0, 2654435761),
+    ("mov", 2, 1, 0, 0),
+    ("add", 3, 1, 3, 0),
+    ("mul", 3, 3, 1, 0),
+    ("shr", 4, 3, 5, 0),
+    ("xor", 3, 3, 4, 0),
+    ("and", 4, 3, 1, 0),
+    ("jlt", 4, 1, 0, 9),
+    ("sub", 3, 3, 4, 0),
+    ("jne", 4, 2, 0, 11),
+    ("or", 4, 3, 2, 0),
+    ("addi", 5, 5, 0, 1),
+    ("jmp", 0, 0, 0, 0),
+]
 # reads one word and writes another for ever
-COPIER = [("load", 1, 0, 0), ("store", 1, 0, 1), ("jeq", 0, 0, 0)]
+COPIER = [("load", 1, 0, 0, 0), ("store", 1, 0, 0, 1), ("jeq", 0, 0, 0, 0)]
+# counts up in a word by compare-exchange for ever
+ADDER = [("load", 1, 0, 0, 0), ("addi", 2, 1, 0, 1), ("cas", 1, 0, 2, 0), ("jeq", 0, 0, 0, 0)]
 
 CASES = [
     ("10,000,000 local instructions, one thread", [0], [COUNTER], (0, 10_000_000, 0), 10_000_000),
+    ("10,000,000 local instructions of many kinds, one thread", [0], [COMPUTER], (0, 10_000_000, 0), 10_000_000),
     ("1,000,000 memory steps, one thread", [7, 0], [COPIER], (1_000_000, 1_073_741_824, 2), 1_000_000),
     ("1,000,000 memory steps, ten threads", [7, 0], [COPIER] * 10, (100_000, 1_073_741_824, 2), 1_000_000),
+    ("30,000 memory steps of compare-exchanges, ten threads", [0], [ADDER] * 10, (3_000, 1_073_741_824, 16_384), 30_000),
 ]
 
 

@@ -6,15 +6,14 @@ use Rattle.std.proofs.lemmas.List.{length_push, length-set}
 use Rattle.std.proofs.lemmas.List.Elements.{All-get_or}
 use Rattle.std.proofs.lemmas.Option.{slice_get_within, get_or_from_slice_get}
 use Rattle.replay_model.specs.declared.Want.{Want}
-use Rattle.replay_model.specs.declared.End.TheVariants as end
 use Rattle.machine.specs.declared.cores.Expected.{Expected}
 use Rattle.machine.specs.declared.program.Instr.{Instr}
 use Rattle.machine.specs.declared.program.Op.{Op}
 use Rattle.machine.specs.declared.program.Op.TheVariants as op
 use Rattle.machine.specs.Programs.{LimitsValue, AreLimits, IsInstr, IsCode, is_register, is_idle, uses_a, uses_b, uses_c, jumps}
-use Rattle.machine.specs.Cores.{State, IsState, HasRoom, HasRest, most_outputs, address_of, is_halt, is_memory, is_reading, is_out, end_before, step_wanted, comes_to, computed, is_taken, output_after, registers_with, ran, instr_or_halt, waiting, waiting_or, run_local, run_on}
+use Rattle.machine.specs.Cores.{State, IsState, HasRoom, HasRest, most_outputs, is_out, end_before, step_wanted, comes_to, computed, is_taken, output_after, registers_with, ran, instr_or_halt, waiting, waiting_or, run_local, run_on}
 use Rattle.machine.specs.Turns.{NamesRegisters}
-use Rattle.machine.proofs.Local.{no_end, passed, goes_on}
+use Rattle.machine.proofs.Local.{no_end, lives}
 use Rattle.machine.proofs.Rests.{comes-taken, comes-past}
 
 -- each instruction of a code keeps the rules
@@ -106,25 +105,15 @@ ran_state o s i len place short instr none fresh target room state = record {
   rest = no_rest s.expected _ fresh;
 }
 
--- no end comes before a local instruction, and so there is room for what it puts out
-out_room : (words : ℕ) (limits : LimitsValue) (full : Bool) (s : State) (i : Instr) → comes_to words limits full s (Some i) ≡ None → (is_out i.op && leb most_outputs (length s.output)) ≡ false
-out_room words limits full s i h =
-    let e = no_end (end_before words limits full s i) (step_wanted i.op s i) h in
-    let a = passed (is_halt i.op) end.Halted _ e.0 in
-    let b = passed (leb limits.instr s.instr) end.InstrSpent _ a.1 in
-    let c = passed (is_memory i.op && leb words (address_of s i)) (end.BadAddress (address_of s i)) _ b.1 in
-    let d = passed (is_memory i.op && leb limits.steps s.steps) end.StepsSpent _ c.1 in
-    let f = passed (is_reading i.op && full) end.EntriesFull _ d.1 in
-    (passed (is_out i.op && leb most_outputs (length s.output)) end.OutputFull None f.1).0
-
 -- a local instruction at the place of a state keeps what holds of it
 pub ran-is_state : (code : List Instr) (words : ℕ) (limits : LimitsValue) (full : Bool) (s : State) (o : Option Instr) → IsCode code → AreLimits limits → slice_get code s.place ≡ o → comes_to words limits full s o ≡ None →
     s.pending ≡ None → s.expected ≡ None → IsState s → IsState (ran (instr_or_halt o).op s (instr_or_halt o))
 ran-is_state code words limits full s None rules bounds at h none fresh state = cc
 ran-is_state code words limits full s (Some i) rules bounds at h none fresh state =
-    let g = (goes_on words limits full s i h).room in
+    let l = lives words limits full s i (no_end (end_before words limits full s i) (step_wanted i.op s i) h).0 in
+    let g = l.room in
     let b = bounds.instr in
-    ran_state i.op s i (length code) (slice_get_within code s.place i at) rules.short (omega arith) none fresh (instr_at code s.place i rules at).target (out_room words limits full s i h) state
+    ran_state i.op s i (length code) (slice_get_within code s.place i at) rules.short (omega arith) none fresh (instr_at code s.place i rules at).target l.output state
 
 -- so does stopping at an instruction
 pub waiting-is_state : (code : List Instr) (words : ℕ) (limits : LimitsValue) (full : Bool) (s : State) (o : Option Instr) (wanted : Want) → IsCode code → AreLimits limits → slice_get code s.place ≡ o →

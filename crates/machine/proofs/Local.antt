@@ -1,15 +1,16 @@
 -- Local instructions: where they go on, where they stop, and what they keep.
-use Rattle.std.proofs.Common.{◌≡◌, ℕ, zero, suc, ◌+◌, ◌-◌, ◌<◌, ◌≤◌, Bool, true, false, cond, List, length, refl, ◌∙◌, ap, arith}
+use Rattle.std.proofs.Common.{◌≡◌, ℕ, zero, suc, ◌+◌, ◌-◌, ◌<◌, ◌≤◌, Bool, true, false, cond, ◌&&◌, leb, List, length, refl, ◌∙◌, ap, arith}
 use Rattle.std.specs.Prelude.{slice_get, slice_index, Option, Some, None}
 use Rattle.std.proofs.lemmas.Bool.{leb-false}
 use Rattle.std.proofs.lemmas.List.{length_push}
 use Rattle.replay_model.specs.declared.Want.{Want}
 use Rattle.replay_model.specs.declared.End.{End}
+use Rattle.replay_model.specs.declared.End.TheVariants as end
 use Rattle.machine.specs.declared.program.Instr.{Instr}
 use Rattle.machine.specs.declared.program.Op.{Op}
 use Rattle.machine.specs.declared.program.Op.TheVariants as op
 use Rattle.machine.specs.Programs.{LimitsValue}
-use Rattle.machine.specs.Cores.{State, is_halt, end_before, step_wanted, ended_or, comes_to, ran, output_after, instr_or_halt, waiting, waiting_or, run_local, run_on}
+use Rattle.machine.specs.Cores.{State, address_of, is_halt, is_memory, is_reading, is_out, most_outputs, end_before, step_wanted, ended_or, comes_to, ran, output_after, instr_or_halt, waiting, waiting_or, run_local, run_on}
 
 -- where neither an end nor a memory step comes, no end comes
 pub no_end : (e : Option End) (w : Option Want) → ended_or e w ≡ None → (e ≡ None) × (w ≡ None)
@@ -17,23 +18,37 @@ no_end None w h = (refl, h)
 no_end (Some e) w h = cc
 
 -- a test whose yes is an end was answered no
-pub passed : (b : Bool) (e : End) (rest : Option End) → cond b (Some e) rest ≡ None → (b ≡ false) × (rest ≡ None)
+passed : (b : Bool) (e : End) (rest : Option End) → cond b (Some e) rest ≡ None → (b ≡ false) × (rest ≡ None)
 passed false e rest h = (refl, h)
 passed true e rest h = cc
 
+-- no end comes before this instruction: each test for one is answered no
+pub record Lives (words : ℕ) (limits : LimitsValue) (full : Bool) (s : State) (i : Instr) : Type 0 where
+  pub halts : is_halt i.op ≡ false
+  pub room : s.instr < limits.instr
+  pub address : (is_memory i.op && leb words (address_of s i)) ≡ false
+  pub steps : (is_memory i.op && leb limits.steps s.steps) ≡ false
+  pub entries : (is_reading i.op && full) ≡ false
+  pub output : (is_out i.op && leb most_outputs (length s.output)) ≡ false
+
+pub lives : (words : ℕ) (limits : LimitsValue) (full : Bool) (s : State) (i : Instr) → end_before words limits full s i ≡ None → Lives words limits full s i
+lives words limits full s i h =
+    let a = passed (is_halt i.op) end.Halted _ h in
+    let b = passed (leb limits.instr s.instr) end.InstrSpent _ a.1 in
+    let c = passed (is_memory i.op && leb words (address_of s i)) (end.BadAddress (address_of s i)) _ b.1 in
+    let d = passed (is_memory i.op && leb limits.steps s.steps) end.StepsSpent _ c.1 in
+    let f = passed (is_reading i.op && full) end.EntriesFull _ d.1 in
+    let g = passed (is_out i.op && leb most_outputs (length s.output)) end.OutputFull None f.1 in
+    record { halts = a.0; room = leb-false _ _ b.0; address = c.0; steps = d.0; entries = f.0; output = g.0 }
+
 -- where the thread goes on
 pub record GoesOn (limits : LimitsValue) (s : State) (i : Instr) : Type 0 where
-  pub lives : is_halt i.op ≡ false
   pub room : s.instr < limits.instr
   pub counts : (ran i.op s i).instr ≡ s.instr + 1
 
 -- a local instruction is counted, and one was left
 pub goes_on : (words : ℕ) (limits : LimitsValue) (full : Bool) (s : State) (i : Instr) → comes_to words limits full s (Some i) ≡ None → GoesOn limits s i
-goes_on words limits full s i h =
-    let e = no_end (end_before words limits full s i) (step_wanted i.op s i) h in
-    let a = passed _ _ _ e.0 in
-    let b = passed _ _ _ a.1 in
-    record { lives = a.0; room = leb-false _ _ b.0; counts = refl }
+goes_on words limits full s i h = record { room = (lives words limits full s i (no_end (end_before words limits full s i) (step_wanted i.op s i) h).0).room; counts = refl }
 
 -- past the end of the code nothing goes on
 pub going_instr : (words : ℕ) (limits : LimitsValue) (full : Bool) (s : State) (o : Option Instr) → comes_to words limits full s o ≡ None → GoesOn limits s (instr_or_halt o)

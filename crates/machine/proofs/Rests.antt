@@ -13,7 +13,7 @@ use Rattle.machine.specs.declared.program.Op.{Op}
 use Rattle.machine.specs.declared.program.Op.TheVariants as op
 use Rattle.machine.specs.Programs.{ProgramValue, LimitsValue, code_of}
 use Rattle.machine.specs.Cores.{State, address_of, is_halt, is_memory, is_reading, is_out, most_outputs, register, end_before, step_wanted, ended_or, comes_to, ran, instr_or_halt, waiting, waiting_or, run_local, run_on, second_wanted, resumed, settled, if_none}
-use Rattle.machine.proofs.Local.{passed, GoesOn, going_instr, ran-follows}
+use Rattle.machine.proofs.Local.{lives as lives_at, GoesOn, going_instr, ran-follows}
 
 -- ---- what an instruction wants
 
@@ -77,14 +77,11 @@ pub comes-taken : (words : ℕ) (limits : LimitsValue) (full : Bool) (s : State)
     comes_to words limits full s (Some i) ≡ Some wanted → has_ended wanted ≡ false → MayBeTaken words limits s wanted
 comes-taken words limits full s i wanted h lives =
     let e = some_of (end_before words limits full s i) (step_wanted i.op s i) wanted h lives in
-    let a = passed _ _ _ e.0 in
-    let b = passed _ _ _ a.1 in
-    let c = passed _ _ _ b.1 in
-    let d = passed _ _ _ c.1 in
+    let l = lives_at words limits full s i e.0 in
     let step = step_is i.op s i wanted e.1 in
-    let w : word_of wanted ≡ address_of s i = step.word in
-    let l = leb-false _ _ (not_both (is_memory i.op) (leb words (address_of s i)) step.memory c.0) in
-    record { word = omega (arith, w, l); steps = leb-false _ _ (not_both (is_memory i.op) (leb limits.steps s.steps) step.memory d.0); instr = leb-false _ _ b.0 }
+    let w = step.word in
+    let far = leb-false _ _ (not_both (is_memory i.op) (leb words (address_of s i)) step.memory l.address) in
+    record { word = omega (arith, w, far); steps = leb-false _ _ (not_both (is_memory i.op) (leb limits.steps s.steps) step.memory l.steps); instr = l.room }
 
 -- past its code a thread comes to its end
 pub comes-past : (words : ℕ) (limits : LimitsValue) (full : Bool) (s : State) (wanted : Want) → comes_to words limits full s None ≡ Some wanted → has_ended wanted ≡ true
