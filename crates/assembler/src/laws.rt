@@ -1,11 +1,13 @@
 // Laws of the definitions, and what they say of small texts.
-ghost use Rattle.assembler.specs.Laws.{CanonicalIsRead, ReadProgramsAreSound};
+ghost use Rattle.assembler.specs.Laws.{CanonicalIsRead, ReadProgramsAreSound, FaultsAreOfLines};
 ghost use Rattle.assembler.specs.Examples.{MessageIsRead, MessageIsListed, ValuesAreRead, FaultsAreFound, NoThreadIsFound, ThreadsAreApart};
 
-/// The canonical text of a program says this program; and what a text says keeps the rules of programs.
+/// The canonical text of a program says this program; what a text says keeps the rules of programs; and a refused text is
+/// at fault in one of its lines, or in the line after them.
 pub fn text_laws()
     ensures canonical { CanonicalIsRead }
     ensures sound { ReadProgramsAreSound }
+    ensures faults { FaultsAreOfLines }
 {}
 
 /// Small texts, computed from the definitions alone.
