@@ -7,6 +7,7 @@ use Rattle.std.proofs.Math.Seq.{set-append_seam}
 use Rattle.std.specs.List.{AllByRecursion}
 use Rattle.machine.specs.declared.program.Instr.{Instr}
 use Rattle.machine.specs.Programs.{ProgramValue, IsProgram, IsCode, IsInstr, uses_a, uses_b, uses_c, uses_imm}
+use Rattle.machine.specs.Images.{HasNumbers}
 use Rattle.assembler.specs.declared.asm_fault.AsmFault.{AsmFault}
 use Rattle.assembler.specs.declared.asm_fault.AsmKind.TheVariants as kind
 use Rattle.assembler.specs.Lines.{lines_of}
@@ -18,7 +19,6 @@ use Rattle.assembler.specs.Labels.{Scope, no_scope, scope_from, with_line}
 use Rattle.assembler.specs.Progress.{Progress, start, threads_of, with_words, with_value, with_instr, take_item}
 use Rattle.assembler.specs.Assembled.{assembled, assembled_from}
 use Rattle.assembler.specs.Canonical.{spaced, init_line, init_lines, register_text, number_text, instr_line, thread_text, canonical}
-use Rattle.assembler.specs.Laws.{HasWordValues}
 use Rattle.assembler.proofs.Scopes.{scope_done, scope_end, scope_more}
 use Rattle.assembler.proofs.Texts.{from_done, from_line, next, finished_begun}
 use Rattle.assembler.proofs.Decimals.{number_decimal}
@@ -196,7 +196,7 @@ good_threads (code ∷ threads) h g = (
 )
 
 -- the law
-pub canonical_read : (p : ProgramValue) → IsProgram p → HasWordValues p → assembled (canonical p) ≡ Ok p
+pub canonical_read : (p : ProgramValue) → IsProgram p → HasNumbers p → assembled (canonical p) ≡ Ok p
 canonical_read p rules small =
     let rest : List ℕ = flat_map thread_text p.threads in
     line_read start (before (replicate (length p.words) 0)) 1 (codes ".words") (decimal (length p.words) ∷ []) (init_lines 0 p.words ++ rest) (canonical p) _

@@ -7,6 +7,7 @@ pub mod Lists
 pub mod Rules
 pub mod InstrRules
 pub mod Texts
+pub mod LineFaults
 pub mod Decimals
 pub mod Tokens
 pub mod Mnemonics

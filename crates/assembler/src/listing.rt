@@ -1,5 +1,7 @@
 // The canonical text of a program.
-ghost use Rattle.std.specs.Prelude.{◌≡◌, ◌++◌, length, flat_map, IfOk, OnOk};
+ghost use Rattle.std.specs.Prelude.{◌≡◌, ◌++◌, ◌<◌, ◌^◌, All, Ok, length, flat_map, IfOk, OnOk};
+ghost use Rattle.machine.specs.declared.program.Instr.{Instr};
+ghost use Rattle.assembler.specs.Assembled.{assembled};
 ghost use Rattle.assembler.specs.Canonical.{spaced, line_end, words_line, init_text, init_lines, register_text, number_text, instr_line, thread_text, canonical};
 ghost use Rattle.std.specs.Prelude.{decimal};
 
@@ -39,7 +41,8 @@ fn put_init(out: &mut Vec<u8>, word: usize, value: u32) -> Result<(), Memory>
 }
 
 fn put_inits(out: &mut Vec<u8>, words: &[u32]) -> Result<(), Memory>
-    ensures { OnOk result (out.new.items ≡ out.old.items ++ init_lines 0 words.now) }
+    ensures written { OnOk result (out.new.items ≡ out.old.items ++ init_lines 0 words.now) }
+    ensures numbers { All (λ word. word < 2 ^ 32) words.now }
 {
     for (word, value) in words.iter().enumerate() {
         put_init(out, word, *value)?;
@@ -69,7 +72,8 @@ fn put_imm(out: &mut Vec<u8>, used: bool, imm: u32) -> Result<(), Memory>
 }
 
 fn put_instr(out: &mut Vec<u8>, instr: &Instr) -> Result<(), Memory>
-    ensures { OnOk result (out.new.items ≡ out.old.items ++ instr_line instr.now) }
+    ensures written { OnOk result (out.new.items ≡ out.old.items ++ instr_line instr.now) }
+    ensures number { OnOk result (instr.now.imm < 2 ^ 32) }
 {
     let op = instr.op;
     out.extend_from_slice(mnemonic(op))?;
@@ -82,7 +86,8 @@ fn put_instr(out: &mut Vec<u8>, instr: &Instr) -> Result<(), Memory>
 }
 
 fn put_code(out: &mut Vec<u8>, code: &[Instr]) -> Result<(), Memory>
-    ensures { OnOk result (out.new.items ≡ out.old.items ++ flat_map instr_line code.now) }
+    ensures written { OnOk result (out.new.items ≡ out.old.items ++ flat_map instr_line code.now) }
+    ensures numbers { OnOk result (All (λ (i : Instr). i.imm < 2 ^ 32) code.now) }
 {
     for instr in code {
         put_instr(out, instr)?;
@@ -91,7 +96,8 @@ fn put_code(out: &mut Vec<u8>, code: &[Instr]) -> Result<(), Memory>
 }
 
 fn put_thread(out: &mut Vec<u8>, code: &[Instr]) -> Result<(), Memory>
-    ensures { OnOk result (out.new.items ≡ out.old.items ++ thread_text code.now) }
+    ensures written { OnOk result (out.new.items ≡ out.old.items ++ thread_text code.now) }
+    ensures numbers { OnOk result (All (λ (i : Instr). i.imm < 2 ^ 32) code.now) }
 {
     out.extend_from_slice(b".thread\n")?;
     put_code(out, code)
@@ -99,7 +105,8 @@ fn put_thread(out: &mut Vec<u8>, code: &[Instr]) -> Result<(), Memory>
 
 // The threads in order.
 fn put_threads(out: &mut Vec<u8>, program: &Program) -> Result<(), Memory>
-    ensures { OnOk result (out.new.items ≡ out.old.items ++ flat_map thread_text program.now.threads) }
+    ensures written { OnOk result (out.new.items ≡ out.old.items ++ flat_map thread_text program.now.threads) }
+    ensures numbers { OnOk result (All (All (λ (i : Instr). i.imm < 2 ^ 32)) program.now.threads) }
 {
     for thread in 0..program.threads_count() {
         put_thread(out, program.threads(thread))?;
@@ -109,7 +116,8 @@ fn put_threads(out: &mut Vec<u8>, program: &Program) -> Result<(), Memory>
 
 /// The program as text, in its one canonical form: `assemble` gives the program back.
 pub fn list(alloc: Global, program: &Program) -> Result<Vec<u8>, Memory>
-    ensures { IfOk result (λ text. text.items ≡ canonical program.now) }
+    ensures written { IfOk result (λ text. text.items ≡ canonical program.now) }
+    ensures back { IfOk result (λ text. assembled text.items ≡ Ok program.now) }
 {
     let mut out = Vec::new(alloc);
     put_words_line(&mut out, program.words().len())?;

@@ -10,8 +10,20 @@ unfolding digits scope_from assembled_from init_lines
 returns c = record {
   message = refl;
   listed = refl;
+  operations_read = refl;
+  operations_listed = refl;
   values = refl;
-  faults = (refl, refl, refl, refl, refl, refl, refl, refl, refl);
+  bytes = (refl, refl);
+  mnemonics = (refl, refl);
+  operands = (refl, refl);
+  numbers = (refl, refl);
+  labels = (refl, refl);
+  labels_once = (refl, refl);
+  targets = (refl, refl);
+  threads_counted = (refl, refl);
+  threads_wanted = (refl, refl);
+  order = (refl, refl, refl, refl, refl, refl, refl, refl);
+  places = (refl, refl, refl, refl);
   no_thread = (refl, refl);
   apart = refl;
 }

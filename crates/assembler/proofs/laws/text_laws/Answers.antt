@@ -1,4 +1,5 @@
 use Rattle.assembler.proofs.CanonicalRead.{canonical_read}
+use Rattle.assembler.proofs.LineFaults.{faults_of_lines}
 use Rattle.assembler.proofs.Rules.{assembled_rules}
 use Rattle.assembler.proofs.laws.text_laws.Goals as goal
 
@@ -6,4 +7,5 @@ pub returns : goal.returns
 returns c = record {
   canonical = canonical_read;
   sound = assembled_rules;
+  faults = faults_of_lines;
 }

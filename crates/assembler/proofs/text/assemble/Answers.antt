@@ -6,6 +6,7 @@ use Rattle.assembler.specs.Assembled.{assembled, out_of_memory}
 use Rattle.assembler.specs.SeenProgress.{progress_of}
 use Rattle.assembler.proofs.Texts.{text_last, text_next, text_fault, finished_begun}
 use Rattle.assembler.proofs.Rules.{assembled_rules}
+use Rattle.assembler.proofs.LineFaults.{memory_or_line, result_line}
 use Rattle.assembler.proofs.text.assemble.Goals as goal
 
 pub returns-in-Err-clause-err : goal.returns-in-Err-clause-err
@@ -14,6 +15,9 @@ returns-in-Err-clause-err c =
     subst P (sym c.at.ensures)
     (text_fault (progress_of c.loop-rest.assembly) c.loop-rest.line c.loop-rest.rest.now c.split_line.result.0.now c.split_line.result.1.now (assembled c.args.text.now) c.in-Err.kind
     c.split_line.ensures.lines c.in-Err.ensures c.loop-rest.invariant.same)
+
+pub returns-in-Err-clause-line : goal.returns-in-Err-clause-line
+returns-in-Err-clause-line c = memory_or_line c.args.text.now c.at.result (returns-in-Err-clause-err c)
 
 pub loop-rest-preserved : goal.loop-rest-preserved
 loop-rest-preserved c = record {
@@ -35,3 +39,6 @@ pub returns-clause-err : goal.returns-clause-err
 returns-clause-err c =
     let P : Result ProgramValue AsmFault → Type 0 = λ t. IfErr c.finish.result (λ fault. (fault ≡ out_of_memory) ⊎ (t ≡ Err fault)) in
     subst P (text_last (progress_of c.loop-rest.assembly) c.loop-rest.line c.loop-rest.rest.now (assembled c.args.text.now) (eqb-true _ _ (sym c.is_empty.ensures ∙ c.loop-rest-test.false)) c.loop-rest.invariant.same) c.finish.ensures.err
+
+pub returns-clause-line : goal.returns-clause-line
+returns-clause-line c = result_line c.args.text.now c.finish.result (returns-clause-err c)
