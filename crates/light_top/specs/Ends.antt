@@ -2,13 +2,16 @@
 use Rattle.std.specs.Prelude.{◌≡◌, ◌≢◌, ℕ, ◌+◌, ◌<◌, ◌≤◌, ◌⊎◌, Bool, IsTrue, List, ◌++◌, length, Option, Some, is_some, IfSome, IsSomeAnd}
 use Rattle.machine.specs.declared.image_fault.ImageFault.{ImageFault}
 use Rattle.machine.specs.declared.image_fault.ImageKind.TheVariants as kind
+use Rattle.assembler.specs.declared.asm_fault.AsmFault.{AsmFault}
+use Rattle.assembler.specs.declared.asm_fault.AsmKind.TheVariants as asm_kind
 use Rattle.light_base.specs.Causes.{Rose}
 use Rattle.light_base.specs.FileMap.{Files}
 use Rattle.light_base.specs.Taken.{Appended}
 use Rattle.light_top.specs.Words.{Request}
 use Rattle.light_top.specs.Loading.{most_bytes}
 use Rattle.light_top.specs.Reading.{IsSomeImage, IsRefused}
-use Rattle.light_top.specs.Commands.{Means, IsReady, MissesName, LoadsTooLong, ReadsImage, KeepsOthers}
+use Rattle.light_top.specs.Texts.{IsSomeText, IsTextRefused}
+use Rattle.light_top.specs.Commands.{Means, IsReady, MissesName, LoadsTooLong, ReadsImage, ReadsText, KeepsOthers}
 use Rattle.light_top.specs.declared.status.Status.{Status}
 use Rattle.light_top.specs.declared.status.Status.TheVariants as status
 
@@ -58,6 +61,7 @@ Ends r old new status.StoreFault =
     Rose old.store_faults new.store_faults × IfSome old.files (λ files. IsTrue old.sound → MissesName r files) × Unprinted r old new
 Ends r old new (status.TooLong taken) = (taken ≡ most_bytes + 1) × IfSome old.files (LoadsTooLong r) × Untouched old new
 Ends r old new (status.ImageRefused fault) = (fault.kind ≢ kind.Memory) × IfSome old.files (ReadsImage r (IsRefused fault)) × Untouched old new
+Ends r old new (status.AsmRefused fault) = (fault.kind ≢ asm_kind.Memory) × IfSome old.files (ReadsText r (IsTextRefused fault)) × Untouched old new
 Ends r old new status.SinkFault = Rose old.sink_faults new.sink_faults × HalfPrinted r old new
 Ends r old new status.Memory = Unprinted r old new ⊎ HalfPrinted r old new
 
@@ -70,6 +74,7 @@ pub record Answers (r : Request) (files : Files) (sound : Bool) (s : Status) : T
   pub missing : MissesName r files → (s ≡ status.StoreFault) ⊎ (s ≡ status.Memory)
   pub too_long : LoadsTooLong r files → (s ≡ status.TooLong (most_bytes + 1)) ⊎ IsExcused sound s
   pub no_image : ReadsImage r (λ bytes. IsSomeImage bytes → ⊥) files → ((fault : ImageFault) × (s ≡ status.ImageRefused fault)) ⊎ IsExcused sound s
+  pub no_text : ReadsText r (λ text. IsSomeText text → ⊥) files → ((fault : AsmFault) × (s ≡ status.AsmRefused fault)) ⊎ IsExcused sound s
 
 -- the sink counted no fault, nor did the store, unless it is sound, and the files allow the request
 pub record CanBeDone (r : Request) (old new : Outside) : Type 0 where

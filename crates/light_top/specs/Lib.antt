@@ -5,7 +5,10 @@ pub mod Loading
 pub mod Saving
 pub mod Printing
 pub mod Reading
+pub mod Texts
 pub mod Playing
 pub mod Recording
+pub mod Assembling
+pub mod Listing
 pub mod Commands
 pub mod Ends

@@ -18,5 +18,6 @@ LoadFails files sound name before now status.StoreFault = Rose before now × IfS
 LoadFails files sound name before now (status.TooLong taken) =
     (taken ≡ most_bytes + 1) × IfSome files (λ f. IsSomeAnd (get f name) (λ bytes. most_bytes < length bytes))
 LoadFails files sound name before now (status.ImageRefused fault) = ⊥
+LoadFails files sound name before now (status.AsmRefused fault) = ⊥
 LoadFails files sound name before now status.SinkFault = ⊥
 LoadFails files sound name before now status.Memory = Unit {0}

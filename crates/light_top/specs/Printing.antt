@@ -20,5 +20,6 @@ PrintFails old new before now text status.Usage = ⊥
 PrintFails old new before now text status.StoreFault = ⊥
 PrintFails old new before now text (status.TooLong taken) = ⊥
 PrintFails old new before now text (status.ImageRefused fault) = ⊥
+PrintFails old new before now text (status.AsmRefused fault) = ⊥
 PrintFails old new before now text status.SinkFault = Rose before now × TookFront old new text
 PrintFails old new before now text status.Memory = TookFront old new text

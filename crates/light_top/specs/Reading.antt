@@ -25,5 +25,6 @@ ReadFails bytes status.Usage = ⊥
 ReadFails bytes status.StoreFault = ⊥
 ReadFails bytes (status.TooLong taken) = ⊥
 ReadFails bytes (status.ImageRefused fault) = IsRefused fault bytes
+ReadFails bytes (status.AsmRefused fault) = ⊥
 ReadFails bytes status.SinkFault = ⊥
 ReadFails bytes status.Memory = Unit {0}

@@ -12,5 +12,6 @@ SaveFails files sound before now status.Usage = ⊥
 SaveFails files sound before now status.StoreFault = Rose before now × IfSome files (λ _. IsTrue sound → ⊥)
 SaveFails files sound before now (status.TooLong taken) = ⊥
 SaveFails files sound before now (status.ImageRefused fault) = ⊥
+SaveFails files sound before now (status.AsmRefused fault) = ⊥
 SaveFails files sound before now status.SinkFault = ⊥
 SaveFails files sound before now status.Memory = Unit {0}

@@ -2,6 +2,7 @@
 use Rattle.std.specs.Prelude.{ℕ, List, [], ◌∷◌, ◌++◌, codes, Result, Ok, Err}
 use Rattle.std.specs.Fmt.{decimal}
 use Rattle.machine.specs.Faults.{number_of_kind}
+use Rattle.assembler.specs.Assembled.{number_of_kind as number_of_asm_kind}
 use Rattle.light_top.specs.declared.status.Status.{Status}
 use Rattle.light_top.specs.declared.status.Status.TheVariants as status
 
@@ -12,6 +13,7 @@ code_of status.Usage = 2
 code_of status.StoreFault = 3
 code_of (status.TooLong taken) = 4
 code_of (status.ImageRefused fault) = 5
+code_of (status.AsmRefused fault) = 6
 code_of status.SinkFault = 14
 code_of status.Memory = 70
 
@@ -20,6 +22,10 @@ abbrev pub refusal_line : ℕ → ℕ → ℕ → List ℕ
 refusal_line kind thread at =
     codes "light: image refused" ++ (codes " kind " ++ decimal kind) ++ (codes " thread " ++ decimal thread) ++ (codes " at " ++ decimal at) ++ 10 ∷ []
 
+-- a text was refused: line L kind K
+abbrev pub text_line : ℕ → ℕ → List ℕ
+text_line line kind = codes "light: text refused" ++ (codes " line " ++ decimal line) ++ (codes " kind " ++ decimal kind) ++ 10 ∷ []
+
 -- what is told of a status
 abbrev pub status_line : Status → List ℕ
 status_line status.Ok = []
@@ -27,6 +33,7 @@ status_line status.Usage = codes "light: usage" ++ 10 ∷ []
 status_line status.StoreFault = codes "light: store fault" ++ 10 ∷ []
 status_line (status.TooLong taken) = codes "light: too long" ++ 10 ∷ []
 status_line (status.ImageRefused fault) = refusal_line (number_of_kind fault.kind) fault.thread fault.at
+status_line (status.AsmRefused fault) = text_line fault.line (number_of_asm_kind fault.kind)
 status_line status.SinkFault = codes "light: output fault" ++ 10 ∷ []
 status_line status.Memory = codes "light: out of memory" ++ 10 ∷ []
 

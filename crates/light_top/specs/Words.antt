@@ -9,6 +9,8 @@ use Rattle.machine.specs.Programs.{LimitsValue}
 pub data Request : Type 0 where
   Run : (image : List ℕ) (limits : LimitsValue) → Request
   Record : (image log : List ℕ) (limits : LimitsValue) → Request
+  Asm : (text image : List ℕ) → Request
+  Listing : (image : List ℕ) → Request
 
 abbrev pub texts : {Y : Type 0} → List (String Y) → List (List ℕ)
 texts words = map string_bytes words
@@ -45,7 +47,22 @@ record_of (image ∷ log ∷ steps ∷ instr ∷ entries ∷ []) =
     if is_name image && is_name log then option_map (Record image log) (limits_of steps instr entries) else None
 record_of _ = None
 
+-- TEXT IMAGE
+abbrev pub asm_of : List (List ℕ) → Option Request
+asm_of (text ∷ image ∷ []) = if is_name text && is_name image then Some (Asm text image) else None
+asm_of _ = None
+
+-- IMAGE
+abbrev pub list_of : List (List ℕ) → Option Request
+list_of (image ∷ []) = if is_name image then Some (Listing image) else None
+list_of _ = None
+
 -- the command is named by the first word, and takes exactly the words shown
 abbrev pub request_of : List (List ℕ) → Option Request
 request_of [] = None
-request_of (verb ∷ rest) = if bytes_eq verb (codes "run") then run_of rest else if bytes_eq verb (codes "record") then record_of rest else None
+request_of (verb ∷ rest) =
+    if bytes_eq verb (codes "run") then run_of rest
+    else if bytes_eq verb (codes "record") then record_of rest
+    else if bytes_eq verb (codes "asm") then asm_of rest
+    else if bytes_eq verb (codes "list") then list_of rest
+    else None

@@ -1,6 +1,8 @@
 //! The commands, over any store and any sink.
 #![tactic(auto)]
 
+mod asm;
+mod list;
 mod load;
 mod print;
 mod read;
@@ -8,6 +10,7 @@ mod recording;
 mod run;
 mod save;
 mod status;
+mod text;
 mod top;
 mod words;
 

@@ -1,7 +1,8 @@
 // How a command ends, as a number and as a line of text.
 ghost use Rattle.std.specs.Prelude.{◌≡◌, IfOk, OnOk, ◌++◌, decimal};
-ghost use Rattle.light_top.specs.Statuses.{code_of, status_line, refusal_line};
+ghost use Rattle.light_top.specs.Statuses.{code_of, status_line, refusal_line, text_line};
 
+use assembler::AsmFault;
 use light_base::{Memory, put_decimal};
 use machine::ImageFault;
 use std::alloc::Global;
@@ -18,6 +19,8 @@ pub enum Status {
     TooLong { taken: u64 },
     /// The bytes are no image, and this is the first fault.
     ImageRefused(ImageFault),
+    /// The text is not in the grammar, and this is its first line at fault.
+    AsmRefused(AsmFault),
     /// The sink counted a fault.
     SinkFault,
     /// A request for memory was refused.
@@ -35,6 +38,7 @@ impl Status {
             Status::StoreFault => 3,
             Status::TooLong { .. } => 4,
             Status::ImageRefused(_) => 5,
+            Status::AsmRefused(_) => 6,
             Status::SinkFault => 14,
             Status::Memory => 70,
         }
@@ -70,6 +74,16 @@ fn put_refusal(text: &mut Vec<u8>, kind: u64, thread: u64, at: u64) -> Result<()
     Ok(())
 }
 
+fn put_text_refusal(text: &mut Vec<u8>, line: u64, kind: u64) -> Result<(), Memory>
+    ensures { OnOk result (text.new.items ≡ text.old.items ++ text_line line kind) }
+{
+    text.extend_from_slice(b"light: text refused")?;
+    put_field(text, b" line ", line)?;
+    put_field(text, b" kind ", kind)?;
+    text.push(b'\n')?;
+    Ok(())
+}
+
 /// The line that tells of a status, with its line feed. Of `Ok` nothing is told.
 pub fn status_text(alloc: Global, status: &Status) -> Result<Vec<u8>, Memory>
     ensures { IfOk result (λ text. text.items ≡ status_line status.now) }
@@ -88,6 +102,10 @@ pub fn status_text(alloc: Global, status: &Status) -> Result<Vec<u8>, Memory>
                 u64::from(fault.thread),
                 u64::from(fault.at),
             )?
+        }
+        Status::AsmRefused(fault) => {
+            let kind = u64::from(fault.kind.code());
+            put_text_refusal(&mut text, u64::from(fault.line), kind)?
         }
         Status::SinkFault => text.extend_from_slice(b"light: output fault\n")?,
         Status::Memory => text.extend_from_slice(b"light: out of memory\n")?,

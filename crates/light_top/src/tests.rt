@@ -1,11 +1,13 @@
 // The commands over a store and a sink in memory.
 use crate::{Status, light, status_text};
+use assembler::{AsmFault, AsmKind};
 use light_base::{MemSink, MemStore};
 use machine::{ImageFault, ImageKind};
 use std::alloc::{AllocError, Global};
 use std::test::Fail;
 
 mod recording;
+mod texts;
 
 // One thread that halts at once.
 const SMALLEST: [u8; 21] = [
@@ -85,6 +87,13 @@ fn words_that_are_no_command(rt: HostRuntime) -> Result<(), Fail> {
         "record i  1 1 1",
         "record i l 1 01 1",
         "list ",
+        "list",
+        "list i i",
+        "asm i",
+        "asm  l",
+        "asm i ",
+        "asm i l l",
+        "assemble i l",
         "Run i 1 1 1",
         "run  1 1 1",
         "run i +1 1 1",
@@ -213,6 +222,14 @@ fn numbers_and_lines_of_statuses(rt: HostRuntime) -> Result<(), Fail> {
             Status::ImageRefused(fault),
             5,
             b"light: image refused kind 4 thread 14 at 4095\n".as_slice(),
+        ),
+        (
+            Status::AsmRefused(AsmFault {
+                line: 3,
+                kind: AsmKind::Undefined,
+            }),
+            6,
+            b"light: text refused line 3 kind 7\n".as_slice(),
         ),
         (Status::SinkFault, 14, b"light: output fault\n".as_slice()),
         (Status::Memory, 70, b"light: out of memory\n".as_slice()),

@@ -7,6 +7,8 @@ ghost use Rattle.light_top.specs.Statuses.{status_of};
 ghost use Rattle.light_top.specs.Ends.{outside, Ends, Answers, CanBeDone, Continues};
 
 use crate::Status;
+use crate::asm::asm;
+use crate::list::list;
 use crate::recording::record;
 use crate::run::run;
 use crate::words::{Command, read_command};
@@ -39,6 +41,8 @@ fn perform<S: Store, K: Sink>(
         Command::Record { image, log, limits } => {
             ended(record(alloc, store, out, image, log, limits))
         }
+        Command::Asm { text, image } => ended(asm(alloc, store, text, image)),
+        Command::Listing { image } => ended(list(alloc, store, out, image)),
     }
 }
 

@@ -1,6 +1,6 @@
 // The words of the command line.
 ghost use Rattle.std.specs.Prelude.{◌≡◌, ◌<◌, ◌^◌, Option, option_map, None, Some};
-ghost use Rattle.light_top.specs.Words.{is_plain, number_of, limits_of, texts, run_of, record_of, request_of};
+ghost use Rattle.light_top.specs.Words.{is_plain, number_of, limits_of, texts, run_of, record_of, asm_of, list_of, request_of};
 ghost use Rattle.light_top.specs.Said.{said};
 
 use machine::Limits;
@@ -18,6 +18,15 @@ pub enum Command<'a> {
         image: &'a str,
         log: &'a str,
         limits: Limits,
+    },
+    /// Saves the image of the program that a text says.
+    Asm {
+        text: &'a str,
+        image: &'a str,
+    },
+    /// Prints the program of an image as text.
+    Listing {
+        image: &'a str,
     },
 }
 
@@ -81,6 +90,29 @@ fn record<'a>(words: &'a [String]) -> Option<Command<'a>>
     }
 }
 
+fn asm<'a>(words: &'a [String]) -> Option<Command<'a>>
+    ensures { option_map said result ≡ asm_of (texts words.now) }
+{
+    match words {
+        [text, image] if !text.is_empty() && !image.is_empty() => Some(Command::Asm {
+            text: text.as_str(),
+            image: image.as_str(),
+        }),
+        _ => None,
+    }
+}
+
+fn list<'a>(words: &'a [String]) -> Option<Command<'a>>
+    ensures { option_map said result ≡ list_of (texts words.now) }
+{
+    match words {
+        [image] if !image.is_empty() => Some(Command::Listing {
+            image: image.as_str(),
+        }),
+        _ => None,
+    }
+}
+
 /// The command that the words are, if they are one.
 pub fn read_command<'a>(words: &'a [String]) -> Option<Command<'a>>
     ensures { option_map said result ≡ request_of (texts words.now) }
@@ -89,6 +121,8 @@ pub fn read_command<'a>(words: &'a [String]) -> Option<Command<'a>>
         [verb, rest @ ..] => match verb.as_str() {
             "run" => run(rest),
             "record" => record(rest),
+            "asm" => asm(rest),
+            "list" => list(rest),
             _ => None,
         },
         [] => None,
