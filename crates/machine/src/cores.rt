@@ -2,7 +2,7 @@
 ghost use Rattle.std.specs.Prelude.{◌≡◌, ℕ, ◌+◌, ◌<◌, ◌≤◌, true, false, if◌then◌else◌, Some, None, List, length, take, IfOk, OnErr, IsSome, IsSomeAnd, option_and_then};
 ghost use Rattle.replay_model.specs.Steps.{reads, has_ended};
 ghost use Rattle.machine.specs.Programs.{IsCode, code_of};
-ghost use Rattle.machine.specs.Cores.{State, first_state, is_memory, is_taken, comes_to, run_on, second_wanted, settled, with_register, told, compared, exchanged, step_done, took, end_of, report_of, is_store};
+ghost use Rattle.machine.specs.Cores.{State, first_state, is_memory, comes_to, run_on, second_wanted, settled, with_register, told, compared, exchanged, step_done, took, end_of, report_of, is_store};
 ghost use Rattle.machine.specs.Turns.{bounds_of, moved, rested, NamesRegisters, Turns};
 
 use crate::program::{Instr, Limits, Op, Program};
@@ -100,21 +100,12 @@ struct Course<'a> {
     steps: u32,
 }
 
-// Where a jump leads: to imm where it is taken, and else to the next place.
-fn jump(registers: &[u32; 16], place: usize, i: Instr) -> usize
-    requires place { place < 4096 }
-    requires fields { NamesRegisters i }
-    ensures { (s : State) → s.registers ≡ registers.now → s.place ≡ place → result ≡ (if is_taken i.op s i then i.imm else s.place + 1) }
+// Where a jump leads: to its target where it is taken, and else to the next place.
+fn jump(taken: bool, target: u32, place: usize) -> Turn
+    requires { place < 4096 }
+    ensures { result ≡ Turn.Next (if taken then target else place + 1) }
 {
-    let (x, y) = (registers[usize::from(i.a)], registers[usize::from(i.b)]);
-    let taken = match i.op {
-        Op::Jmp => true,
-        Op::Jeq => x == y,
-        Op::Jne => x != y,
-        Op::Jlt => x < y,
-        _ => false,
-    };
-    if taken { i.imm as usize } else { place + 1 }
+    Turn::Next(if taken { target as usize } else { place + 1 })
 }
 
 impl Course<'_> {
@@ -175,9 +166,10 @@ impl Course<'_> {
             Op::Shl => registers[a] = registers[b].wrapping_shl(registers[c]),
             Op::Shr => registers[a] = registers[b].wrapping_shr(registers[c]),
             Op::Addi => registers[a] = registers[b].wrapping_add(i.imm),
-            Op::Jmp | Op::Jeq | Op::Jne | Op::Jlt => {
-                return Ok(Turn::Next(jump(registers, place, i)));
-            }
+            Op::Jmp => return Ok(jump(true, i.imm, place)),
+            Op::Jeq => return Ok(jump(registers[a] == registers[b], i.imm, place)),
+            Op::Jne => return Ok(jump(registers[a] != registers[b], i.imm, place)),
+            Op::Jlt => return Ok(jump(registers[a] < registers[b], i.imm, place)),
             Op::Out => {
                 if output.len() >= MOST_OUTPUTS {
                     return Ok(Turn::Stop(Want::Ended(End::OutputFull)));
