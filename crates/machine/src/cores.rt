@@ -110,11 +110,11 @@ fn jump(taken: bool, target: u32, place: usize) -> Turn
 
 impl Course<'_> {
     // The memory step of this instruction, or the end that comes before it.
-    fn memory_step(&self, registers: &[u32; 16], i: Instr) -> Want
+    fn memory_step(&self, registers: &[u32; 16], i: &Instr) -> Want
         requires words { self.now.words ≤ 4096 }
-        requires fields { NamesRegisters i }
-        requires memory { is_memory i.op ≡ true }
-        ensures { (s : State) (place instr : ℕ) (output : List ℕ) → instr < self.now.most_instr → comes_to self.now.words (bounds_of self.now) self.now.full (moved s registers.now place output self.now.steps instr) (Some i) ≡ Some result }
+        requires fields { NamesRegisters i.now }
+        requires memory { is_memory i.now.op ≡ true }
+        ensures { (s : State) (place instr : ℕ) (output : List ℕ) → instr < self.now.most_instr → comes_to self.now.words (bounds_of self.now) self.now.full (moved s registers.now place output self.now.steps instr) (Some i.now) ≡ Some result }
     {
         let address = registers[usize::from(i.b)].wrapping_add(i.imm);
         if address as usize >= self.words {
@@ -139,14 +139,14 @@ impl Course<'_> {
         place: usize,
         output: &mut Vec<u32>,
         instr: u32,
-        i: Instr,
+        i: &Instr,
     ) -> Result<Turn, Memory>
         requires words { self.now.words ≤ 4096 }
         requires place { place < 4096 }
-        requires fields { NamesRegisters i }
-        ensures ok { IfOk result (λ turn. (s : State) → Turns self.now.words (bounds_of self.now) self.now.full i (moved s registers.old place output.old.items self.now.steps instr) turn registers.new output.new.items) }
-        ensures err { OnErr result ((s : State) → comes_to self.now.words (bounds_of self.now) self.now.full (moved s registers.old place output.old.items self.now.steps instr) (Some i) ≡ None) }
-        ensures puts { OnErr result (i.op ≡ Op.Out) }
+        requires fields { NamesRegisters i.now }
+        ensures ok { IfOk result (λ turn. (s : State) → Turns self.now.words (bounds_of self.now) self.now.full i.now (moved s registers.old place output.old.items self.now.steps instr) turn registers.new output.new.items) }
+        ensures err { OnErr result ((s : State) → comes_to self.now.words (bounds_of self.now) self.now.full (moved s registers.old place output.old.items self.now.steps instr) (Some i.now) ≡ None) }
+        ensures puts { OnErr result (i.now.op ≡ Op.Out) }
         ensures kept { take (length output.old.items) output.new.items ≡ output.old.items }
     {
         let (a, b, c) = (usize::from(i.a), usize::from(i.b), usize::from(i.c));
@@ -200,7 +200,7 @@ impl Course<'_> {
         ensures kept { take (length output.old.items) output.new.items ≡ output.old.items }
     {
         while place < self.code.len() {
-            let i = self.code[place];
+            let i = &self.code[place];
             match self.turn(registers, place, output, instr, i)? {
                 Turn::Next(next) => {
                     place = next;
@@ -210,7 +210,7 @@ impl Course<'_> {
                     return Ok(Rest {
                         place,
                         instr,
-                        doing: i,
+                        doing: *i,
                         wanted,
                     });
                 }
