@@ -12,7 +12,7 @@ returns-clause-ends g c =
     record {
       program = c.in_ok-program.program;
       image = subst (λ bytes. IsImage bytes c.in_ok-program.program) c.deref.ensures.value c.in_ok-program.ensures.ok;
-      printed = c.deref-2.ensures.value ∙ c.in_ok-text.ensures;
+      printed = c.deref-2.ensures.value ∙ c.in_ok-text.ensures.written;
     } in
     ends_printed (Listing c.args.image.now)
     (outside g.S.Store.files g.S.Store.sound g.S.Store.faults g.K.Sink.taken g.K.Sink.faults c.args.store.now c.args.out.now)
