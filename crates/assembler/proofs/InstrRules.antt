@@ -126,7 +126,7 @@ last_rules true is_target scope [] v within h = absurd (cc)
 last_rules true is_target scope (word ∷ []) v within h = (refl, imm_rules is_target scope word v within h)
 last_rules true is_target scope (word ∷ other ∷ tokens) v within h = absurd (cc)
 
-with_imm_ok : (o : Op) (r : Registers) (m : Result ℕ AsmKind) (i : Instr) → with_imm o r m ≡ Ok i → (v : ℕ) × (m ≡ Ok v) × (record { op = o; a = r.a; b = r.b; c = r.c; imm = v } ≡ i)
+pub with_imm_ok : (o : Op) (r : Registers) (m : Result ℕ AsmKind) (i : Instr) → with_imm o r m ≡ Ok i → (v : ℕ) × (m ≡ Ok v) × (record { op = o; a = r.a; b = r.b; c = r.c; imm = v } ≡ i)
 with_imm_ok o r (Err k) i h = absurd (cc)
 with_imm_ok o r (Ok v) i h = (v, refl, cc)
 

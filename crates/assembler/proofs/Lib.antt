@@ -8,6 +8,7 @@ pub mod Rules
 pub mod InstrRules
 pub mod Texts
 pub mod LineFaults
+pub mod WordValues
 pub mod Decimals
 pub mod Tokens
 pub mod Mnemonics

@@ -11,9 +11,9 @@ use Rattle.assembler.specs.Canonical.{canonical}
 abbrev pub CanonicalIsRead : Type 0
 CanonicalIsRead = (p : ProgramValue) → IsProgram p → HasNumbers p → assembled (canonical p) ≡ Ok p
 
--- what a text says keeps the rules of programs
+-- what a text says keeps the rules of programs, and its numbers fit an image
 abbrev pub ReadProgramsAreSound : Type 0
-ReadProgramsAreSound = (text : List ℕ) (p : ProgramValue) → assembled text ≡ Ok p → IsProgram p
+ReadProgramsAreSound = (text : List ℕ) (p : ProgramValue) → assembled text ≡ Ok p → IsProgram p × HasNumbers p
 
 -- a fault of a line of the text, or of the line after its last
 pub record IsLineFault (text : List ℕ) (fault : AsmFault) : Type 0 where

@@ -2,8 +2,8 @@
 ghost use Rattle.assembler.specs.Laws.{CanonicalIsRead, ReadProgramsAreSound, FaultsAreOfLines};
 ghost use Rattle.assembler.specs.Examples.{MessageIsRead, MessageIsListed, OperationsAreRead, OperationsAreListed, ValuesAreRead, BytesAreTested, MnemonicsAreTested, OperandsAreTested, NumbersAreTested, LabelsAreTested, LabelsAreOnce, TargetsAreTested, ThreadsAreCounted, ThreadsAreWanted, OrderIsKept, PlacesAreCounted, NoThreadIsFound, ThreadsAreApart};
 
-/// The canonical text of a program says this program; what a text says keeps the rules of programs; and a refused text is
-/// at fault in one of its lines, or in the line after them.
+/// The canonical text of a program says this program; what a text says keeps the rules of programs, and its numbers
+/// fit an image; and a refused text is at fault in one of its lines, or in the line after them.
 pub fn text_laws()
     ensures canonical { CanonicalIsRead }
     ensures sound { ReadProgramsAreSound }
