@@ -150,12 +150,13 @@ impl Course<'_> {
         ensures kept { take (length output.old.items) output.new.items ≡ output.old.items }
     {
         let (a, b, c) = (usize::from(i.a), usize::from(i.b), usize::from(i.c));
+        let imm = i.imm;
         match i.op {
             Op::Halt => return Ok(Turn::Stop(Want::Ended(End::Halted))),
             _ if instr >= self.most_instr => {
                 return Ok(Turn::Stop(Want::Ended(End::InstrSpent)));
             }
-            Op::Const => registers[a] = i.imm,
+            Op::Const => registers[a] = imm,
             Op::Mov => registers[a] = registers[b],
             Op::Add => registers[a] = registers[b].wrapping_add(registers[c]),
             Op::Sub => registers[a] = registers[b].wrapping_sub(registers[c]),
@@ -165,11 +166,11 @@ impl Course<'_> {
             Op::Xor => registers[a] = registers[b] ^ registers[c],
             Op::Shl => registers[a] = registers[b].wrapping_shl(registers[c]),
             Op::Shr => registers[a] = registers[b].wrapping_shr(registers[c]),
-            Op::Addi => registers[a] = registers[b].wrapping_add(i.imm),
-            Op::Jmp => return Ok(jump(true, i.imm, place)),
-            Op::Jeq => return Ok(jump(registers[a] == registers[b], i.imm, place)),
-            Op::Jne => return Ok(jump(registers[a] != registers[b], i.imm, place)),
-            Op::Jlt => return Ok(jump(registers[a] < registers[b], i.imm, place)),
+            Op::Addi => registers[a] = registers[b].wrapping_add(imm),
+            Op::Jmp => return Ok(jump(true, imm, place)),
+            Op::Jeq => return Ok(jump(registers[a] == registers[b], imm, place)),
+            Op::Jne => return Ok(jump(registers[a] != registers[b], imm, place)),
+            Op::Jlt => return Ok(jump(registers[a] < registers[b], imm, place)),
             Op::Out => {
                 if output.len() >= MOST_OUTPUTS {
                     return Ok(Turn::Stop(Want::Ended(End::OutputFull)));
