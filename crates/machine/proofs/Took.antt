@@ -8,7 +8,7 @@ use Rattle.replay_model.specs.declared.Want.TheVariants as want
 use Rattle.replay_model.specs.declared.End.TheVariants as end
 use Rattle.machine.specs.declared.cores.Expected.{Expected}
 use Rattle.machine.specs.Programs.{ProgramValue, LimitsValue}
-use Rattle.machine.specs.Cores.{State, pending_want, want_or, register, is_cas, step_done, told, given, compared, found, took}
+use Rattle.machine.specs.Cores.{State, pending_want, want_or, register, is_cas, step_done, told, given, compared, cas_found, found, took}
 use Rattle.machine.proofs.Rests.{MayBeTaken, IsBetween}
 
 -- the second step of a compare-exchange is left: its load found the tag that is expected in the word that it wanted
@@ -49,13 +49,14 @@ compared_takes s word cell h =
           record { wanted = h ∙ ap (λ (y : Expected). want.Load y.word) x; seen = cell; was = refl; tag = ap (λ (y : Expected). y.tag) x; instr = refl };
     }) (done_takes s (told (given s cell) 0) (Some cell) refl refl refl)
 
-found_takes : (s : State) (wanted : Want) (cell : Cell) → pending_want s ≡ wanted → Takes s (Some cell) (found s wanted cell)
-found_takes s (want.Load word) cell h = either_takes s (Some cell) (is_cas s.doing.op) _ _ (compared_takes s word cell h) (done_takes s (given s cell) (Some cell) refl refl refl)
-found_takes s (want.Cond word seen value) cell h =
+cas_found_takes : (s : State) (wanted : Want) (cell : Cell) → pending_want s ≡ wanted → Takes s (Some cell) (cas_found s wanted cell)
+cas_found_takes s (want.Load word) cell h = compared_takes s word cell h
+cas_found_takes s (want.Cond word seen value) cell h =
     either_takes s (Some cell) (same_tag cell.tag seen) _ _ (done_takes s (told s 1) (Some cell) refl refl refl) (done_takes s (told (given s cell) 2) (Some cell) refl refl refl)
-found_takes s (want.Store word value) cell h = done_takes s (given s cell) (Some cell) refl refl refl
-found_takes s (want.Swap word value) cell h = done_takes s (given s cell) (Some cell) refl refl refl
-found_takes s (want.Ended e) cell h = done_takes s (given s cell) (Some cell) refl refl refl
+cas_found_takes s _ cell h = done_takes s (given s cell) (Some cell) refl refl refl
+
+found_takes : (s : State) (wanted : Want) (cell : Cell) → pending_want s ≡ wanted → Takes s (Some cell) (found s wanted cell)
+found_takes s wanted cell h = either_takes s (Some cell) (is_cas s.doing.op) _ _ (cas_found_takes s wanted cell h) (done_takes s (given s cell) (Some cell) refl refl refl)
 
 pub took_takes : (s : State) (cell : Option Cell) → Takes s cell (took s cell)
 took_takes s None = done_takes s s None refl refl refl

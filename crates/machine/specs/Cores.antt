@@ -226,11 +226,15 @@ compared s word cell =
 abbrev pub exchanged : State → Tag → Cell → State
 exchanged s seen cell = if same_tag cell.tag seen then step_done (told s 1) else step_done (told (given s cell) 2)
 
--- the state after the pending step has found this cell
+-- what the memory step of a compare-exchange does, which is its first one where it loads and its second one where it writes
+abbrev pub cas_found : State → Want → Cell → State
+cas_found s (want.Load word) cell = compared s word cell
+cas_found s (want.Cond word seen value) cell = exchanged s seen cell
+cas_found s _ cell = step_done (given s cell)
+
+-- the state after the pending step has found this cell: every other instruction gives it to register a
 abbrev pub found : State → Want → Cell → State
-found s (want.Load word) cell = if is_cas s.doing.op then compared s word cell else step_done (given s cell)
-found s (want.Cond word seen value) cell = exchanged s seen cell
-found s _ cell = step_done (given s cell)
+found s wanted cell = if is_cas s.doing.op then cas_found s wanted cell else step_done (given s cell)
 
 -- the state after the pending memory step, which found this cell, or none where it reads nothing
 abbrev pub took : State → Option Cell → State

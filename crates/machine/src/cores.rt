@@ -2,7 +2,7 @@
 ghost use Rattle.std.specs.Prelude.{◌≡◌, ℕ, ◌+◌, ◌<◌, ◌≤◌, true, false, if◌then◌else◌, Some, None, List, length, take, IfOk, OnErr, IsSome, IsSomeAnd, option_and_then};
 ghost use Rattle.replay_model.specs.Steps.{reads, has_ended};
 ghost use Rattle.machine.specs.Programs.{IsCode, code_of};
-ghost use Rattle.machine.specs.Cores.{State, first_state, is_memory, comes_to, run_on, second_wanted, settled, with_register, told, compared, exchanged, step_done, took, end_of, report_of, is_store};
+ghost use Rattle.machine.specs.Cores.{State, first_state, is_memory, comes_to, run_on, second_wanted, settled, with_register, told, compared, exchanged, cas_found, pending_want, step_done, took, end_of, report_of, is_store};
 ghost use Rattle.machine.specs.Turns.{bounds_of, moved, rested, NamesRegisters, Turns};
 
 use crate::program::{Instr, Limits, Op, Program};
@@ -308,11 +308,10 @@ impl Core {
             full,
             steps: self.steps,
         };
-        let mut registers = self.registers;
+        let registers = self.registers;
         let outputs = self.output.len();
-        match course.run(&mut registers, self.place, &mut self.output, self.instr) {
+        match course.run(&mut self.registers, self.place, &mut self.output, self.instr) {
             Ok(rest) => {
-                self.registers = registers;
                 self.place = rest.place;
                 self.instr = rest.instr;
                 self.doing = rest.doing;
@@ -320,6 +319,7 @@ impl Core {
                 Ok(rest.wanted)
             }
             Err(Memory) => {
+                self.registers = registers;
                 self.output.truncate(outputs);
                 Err(Memory)
             }
@@ -332,14 +332,27 @@ impl Core {
         requires { IsSomeAnd self.old.pending (λ wanted. reads wanted ≡ true) }
         ensures { self.new ≡ took self.old (Some cell) }
     {
+        if self.doing.op == Op::Cas {
+            self.cas_found(cell);
+        } else {
+            self.give(cell.value);
+            self.step_done();
+        }
+    }
+
+    // The pending step of a compare-exchange found this cell.
+    fn cas_found(&mut self, cell: Cell)
+        requires { IsSomeAnd self.old.pending (λ wanted. has_ended wanted ≡ false) }
+        ensures { self.new ≡ cas_found self.old (pending_want self.old) cell }
+    {
         match &self.pending {
+            Some(Want::Load(word)) => {
+                let word = *word;
+                self.compared(word, cell)
+            }
             Some(Want::Cond(_, seen, _)) => {
                 let seen = *seen;
                 self.exchanged(seen, cell)
-            }
-            Some(Want::Load(word)) if self.doing.op == Op::Cas => {
-                let word = *word;
-                self.compared(word, cell)
             }
             _ => {
                 self.give(cell.value);
