@@ -183,8 +183,22 @@ fn bytes_that_are_refused(rt: HostRuntime) -> Result<(), Fail> {
     store.put_file("long", &padded(alloc, b"", 8_388_609)?)?;
     store.put_file("more", &padded(alloc, &SMALLEST, 8_388_608)?)?;
     store.put_file("less", &SMALLEST[..20])?;
+    let mut unknown = SMALLEST;
+    unknown[13] = 21;
+    store.put_file("unknown", &unknown)?;
+    let mut unused = SMALLEST;
+    unused[14] = 1;
+    store.put_file("unused", &unused)?;
     for (line, status) in [
         ("run long 1 1 1", Status::TooLong { taken: 8_388_609 }),
+        (
+            "run unknown 1 1 1",
+            Status::ImageRefused(ImageFault::whole(ImageKind::Opcode)),
+        ),
+        (
+            "run unused 1 1 1",
+            Status::ImageRefused(ImageFault::whole(ImageKind::Unused)),
+        ),
         (
             "run more 1 1 1",
             Status::ImageRefused(ImageFault::whole(ImageKind::Long)),

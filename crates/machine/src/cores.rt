@@ -310,7 +310,12 @@ impl Core {
         };
         let registers = self.registers;
         let outputs = self.output.len();
-        match course.run(&mut self.registers, self.place, &mut self.output, self.instr) {
+        match course.run(
+            &mut self.registers,
+            self.place,
+            &mut self.output,
+            self.instr,
+        ) {
             Ok(rest) => {
                 self.place = rest.place;
                 self.instr = rest.instr;

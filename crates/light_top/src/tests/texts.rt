@@ -113,7 +113,7 @@ fn texts_that_are_refused(rt: HostRuntime) -> Result<(), Fail> {
         (b"".as_slice(), 1, AsmKind::NoThread),
         (b".thread\nfetch r1".as_slice(), 2, AsmKind::Mnemonic),
         (
-            b".words 1\n.thread\njeq r0 r0 nowhere".as_slice(),
+            b".words 1\n.thread\njmp nowhere".as_slice(),
             3,
             AsmKind::Undefined,
         ),
