@@ -1,5 +1,5 @@
 -- A set of sightings with one more.
-use Rattle.std.proofs.Common.{◌≡◌, ℕ, ◌+◌, Bool, true, false, cond, eqb, List, [], ◌∷◌, length, refl, sym, ◌∙◌, ap, add-zero}
+use Rattle.std.proofs.Common.{◌≡◌, ℕ, ◌+◌, Bool, true, false, cond, eqb, List, [], ◌∷◌, length, refl, sym, ◌∙◌, ap}
 use Rattle.std.specs.Prelude.{Option, Some, None, ◌||◌, ◌&&◌, not}
 use Rattle.std.specs.Option.{option_eq}
 use Rattle.std.specs.List.{list_any}
@@ -58,14 +58,3 @@ sees_more word cell found writer old new added f w updates fresh count = record 
     flip : (b : Bool) → cond {A = ℕ} (not b) 1 0 ≡ cond b 0 1
     flip true = refl
     flip false = refl
-
--- a step that found nothing is no sighting
-pub sees_none : (word : ℕ) (found : Option Cell) (old new : List Sighting) → found ≡ None → new ≡ old → Sees word found old new
-sees_none word found old new f same_list = record {
-  pairs = λ at tag. ap (has_pair at tag) same_list ∙ or_none (has_pair at tag old) ∙ ap (λ (o : Option Cell). has_pair at tag old || is_sight at tag word o) (sym f);
-  count = ap length same_list ∙ sym (add-zero (length old)) ∙ ap (λ (o : Option Cell). length old + new_pairs word o old) (sym f);
-}
-  where
-    or_none : (b : Bool) → b ≡ (b || false)
-    or_none true = refl
-    or_none false = refl

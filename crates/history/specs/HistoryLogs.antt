@@ -1,7 +1,6 @@
 -- The log of a history of a program, and the laws of recording and replaying at programs.
 use Rattle.std.specs.Prelude.{◌≡◌, ℕ, List, length}
 use Rattle.replay_model.specs.Steps.{Event, Step}
-use Rattle.replay_model.specs.Histories.{World}
 use Rattle.replay_model.specs.Logs.{Log}
 use Rattle.replay_model.specs.WellFormed.{IsWellFormed}
 use Rattle.replay_model.specs.Orders.{Respects}

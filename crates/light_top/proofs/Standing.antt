@@ -212,12 +212,3 @@ complete r old new status.SinkFault ends can = absurd (can.sink ends.0)
 complete r old new status.Memory ends can = inr refl
 
 -- ---- the faults, and words that are no command
-
-pub store_rose : (r : Request) (old new : Outside) (s : Status) → Ends r old new s → s ≡ status.StoreFault → Rose old.store_faults new.store_faults
-store_rose r old new s ends is = (subst (Ends r old new) is ends).0
-
-pub sink_rose : (r : Request) (old new : Outside) (s : Status) → Ends r old new s → s ≡ status.SinkFault → Rose old.sink_faults new.sink_faults
-sink_rose r old new s ends is = (subst (Ends r old new) is ends).0
-
-pub no_usage : (r : Request) (old new : Outside) (s : Status) → Ends r old new s → s ≡ status.Usage → ⊥
-no_usage r old new s ends is = subst (Ends r old new) is ends

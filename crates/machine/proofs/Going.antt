@@ -1,6 +1,6 @@
 -- How a run of local instructions settles a state, from what is known where it is called.
-use Rattle.std.proofs.Common.{◌≡◌, ℕ, ◌<◌, ◌≤◌, Bool, List, [], length, refl, sym, ◌∙◌, ap, subst, arith}
-use Rattle.std.specs.Prelude.{Option, Some, None}
+use Rattle.std.proofs.Common.{◌≡◌, ℕ, ◌<◌, Bool, List, [], length, sym, ◌∙◌, ap, subst, arith}
+use Rattle.std.specs.Prelude.{Some}
 use Rattle.std.proofs.lemmas.List.Elements.{All-get_or}
 use Rattle.replay_model.specs.declared.Want.{Want}
 use Rattle.machine.specs.declared.program.Instr.{Instr}
@@ -8,11 +8,6 @@ use Rattle.machine.specs.Programs.{ProgramValue, LimitsValue, AreLimits, IsCode,
 use Rattle.machine.specs.Cores.{State, run_on, settled}
 use Rattle.machine.proofs.Local.{run_on-entries}
 use Rattle.machine.proofs.Rests.{settled-some}
-
--- nothing is pending
-pub none_from : (o : Option Want) → ((w : Want) → o ≡ Some w → ⊥) → o ≡ None
-none_from None h = refl
-none_from (Some w) h = absurd (h w refl)
 
 -- something is pending already
 pub settled_already : (p : ProgramValue) (limits : LimitsValue) (full : Bool) (s now : State) (wanted : Want) → s ≡ now → s.pending ≡ Some wanted →
@@ -24,10 +19,6 @@ settled_already p limits full s now wanted same h =
 -- the code of a thread of a program keeps the rules
 pub code_rules : (p : ProgramValue) (thread : ℕ) (code : List Instr) → IsProgram p → thread < length p.threads → code ≡ code_of p thread → IsCode code
 code_rules p thread code rules there e = subst IsCode (sym e) (All-get_or IsCode p.threads thread [] there rules.each)
-
--- a program has few words
-pub words_few : (p : ProgramValue) (words : List ℕ) → IsProgram p → words ≡ p.words → length words ≤ 4096
-words_few p words rules e = let P : List ℕ → Type 0 = λ w. length w ≤ 4096 in subst P (sym e) rules.most_words
 
 -- the limits that bound a course are limits
 pub limits_rules : (limits : LimitsValue) (steps instr : ℕ) → AreLimits limits → steps ≡ limits.steps → instr ≡ limits.instr → AreLimits (record { steps = steps; instr = instr; entries = 0 })

@@ -1,6 +1,6 @@
 -- The two laws of images: what is read is spelled so, and the image of a program is read.
 use Rattle.std.proofs.Common.{◌≡◌, ◌≢◌, ◌⊎◌, ℕ, ◌+◌, ◌*◌, ◌^◌, ◌<◌, ◌≤◌, Bool, true, false, cond, ltb, eqb, not, List, [], ◌∷◌, ◌++◌, length, take, drop, get_or, sum, map, All, Option, Some, None, Result, Ok, Err, refl, sym, ap, subst, ◌∙◌, arith, inl, inr}
-use Rattle.std.specs.Prelude.{IfOk, IfErr, MatchResult}
+use Rattle.std.specs.Prelude.{IfErr, MatchResult}
 use Rattle.std.specs.List.{flat_map, AllByRecursion, list_all, starts_with}
 use Rattle.std.specs.Int.{w16, w32, from_be_bytes, to_be_bytes}
 use Rattle.std.proofs.lemmas.Bool.{cases_eq, ltb-false, not-false, and_parts, and_from}
@@ -282,10 +282,6 @@ memory_or kind.Memory thread at =
       ]
       | inr other ↦ inr (λ h. other (ap (λ (f : ImageFault). f.thread) h))
     ]
-
-pub found_is : (bytes : List ℕ) (r : Result ProgramValue ImageFault) → IsBytes bytes → Gives (λ p. p) r (image_read bytes) → IfOk r (λ p. IsImage bytes p)
-found_is bytes (Ok p) fits given = image_takes bytes p fits given
-found_is bytes (Err e) fits given = tt
 
 pub only_is : (bytes : List ℕ) (r : Result ProgramValue ImageFault) (p : ProgramValue) → Gives (λ q. q) r (image_read bytes) → IsImage bytes p → MatchResult r (λ q. q ≡ p) (λ e. e ≡ out_of_memory)
 only_is bytes (Ok q) p given image = ok_is q p (sym given ∙ ap image_read image.spelled ∙ image_again p image.rules image.numbers)

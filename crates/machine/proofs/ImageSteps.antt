@@ -1,5 +1,5 @@
 -- Reading instructions and codes one after the other, as loops do.
-use Rattle.std.proofs.Common.{◌≡◌, ℕ, suc, ◌+◌, ◌-◌, ◌*◌, ◌<◌, ◌≤◌, List, [], ◌∷◌, ◌++◌, length, drop, get_or, sum, Some, None, Result, Ok, Err, refl, sym, ap, ◌∙◌, append_assoc, arith}
+use Rattle.std.proofs.Common.{◌≡◌, ℕ, suc, ◌+◌, ◌-◌, ◌*◌, ◌<◌, ◌≤◌, List, [], ◌∷◌, ◌++◌, length, drop, get_or, sum, Some, Result, Ok, Err, refl, sym, ap, ◌∙◌, append_assoc, arith}
 use Rattle.std.proofs.lemmas.List.Sums.{sum_by-cons}
 use Rattle.std.proofs.lemmas.List.{append-nil, drop-drop, drop_more, drop_all}
 use Rattle.std.specs.Int.{w32}
@@ -7,7 +7,6 @@ use Rattle.light_base.specs.Numbers.{big_endian_at}
 use Rattle.light_base.proofs.Numbers.{big_endian_at-within}
 use Rattle.machine.specs.Programs.{Instr, Op, op_of}
 use Rattle.machine.specs.Faults.{ImageKind, ImageFault, instr_fault}
-use Rattle.machine.specs.declared.image_fault.ImageKind.TheVariants as kind
 use Rattle.machine.specs.ImageReading.{◌>>=◌, kept, with_op, instr_at, code_at, codes_at}
 
 pub sum-cons : (x : ℕ) (xs : List ℕ) → sum (x ∷ xs) ≡ x + sum xs
@@ -30,10 +29,6 @@ unfolding instr_at
 instr_at_is len bytes o imm e n =
     let made : ℕ → Instr = λ m. record { op = o; a = get_or bytes 1 0; b = get_or bytes 2 0; c = get_or bytes 3 0; imm = m } in
     ap (with_op len bytes) e ∙ ap (λ (m : ℕ). kept (instr_fault len (made m)) (made m)) (big_endian_at-within w32 bytes 4 imm n).1
-
-pub instr_at_none : (len : ℕ) (bytes : List ℕ) → op_of (get_or bytes 0 0) ≡ None → instr_at len bytes ≡ Err kind.Opcode
-unfolding instr_at
-instr_at_none len bytes e = ap (with_op len bytes) e
 
 code_next : (len thread at n : ℕ) (bytes : List ℕ) (i : Instr) (front : List Instr) → instr_at len bytes ≡ Ok i
     → with_front front (code_at len thread at (suc n) bytes) ≡ with_front (front ++ i ∷ []) (code_at len thread (at + 1) n (drop 8 bytes))
