@@ -1,5 +1,5 @@
 // Programs as text, recorded by an order of turns: the entries and the last tags of the log, and the transcript. The
-// expected values are worked out by hand.
+// expected values are worked out by hand, those of the last six by a model of the machine written apart from it.
 use assembler::assemble;
 use light_base::{Memory, Tag};
 use machine::Limits;
@@ -184,7 +184,67 @@ const JUMPS: Row = Row {
     text: "thread 0 halted steps 0 instr 8/out 1/out 1/",
 };
 
-const ROWS: [Row; 16] = [
+// Each thread writes its own word and reads the other one: not both read 0.
+const STORE_BUFFERING: Row = Row {
+    program: ".words 2/.thread/set r1 1/store r1 r0 0/load r2 r0 1/out r2/.thread/set r1 1/store r1 r0 1/load r2 r0 0/out r2",
+    limits: MOST,
+    order: &[],
+    entries: "1 1:1 2 2;/0 0:1 2 2;/",
+    lasts: "0:1;1:1;",
+    text: "thread 0 halted steps 2 instr 4/out 1/thread 1 halted steps 2 instr 4/out 1/word 0 1/word 1 1/",
+};
+
+// Each thread raises a flag and waits for the other one.
+const TWO_FLAGS: Row = Row {
+    program: ".words 2/.thread/set r1 1/store r1 r0 0/wait: load r2 r0 1/jeq r2 r0 wait/.thread/set r1 1/store r1 r0 1/wait: load r2 r0 0/jeq r2 r0 wait",
+    limits: MOST,
+    order: &[],
+    entries: "1 1:1 2 2;/0 0:1 2 2;/",
+    lasts: "0:1;1:1;",
+    text: "thread 0 halted steps 2 instr 4/thread 1 halted steps 2 instr 4/word 0 1/word 1 1/",
+};
+
+// Money moves between two accounts under a spin lock made of a compare-exchange: the sum stays.
+const BANK_TRANSFER: Row = Row {
+    program: ".words 3/.init 1 50/.init 2 50/.thread/set r2 1/lock: set r3 0/cas r3 r0 r2 0/jne r15 r2 lock/set r6 10/load r4 r0 1/sub r4 r4 r6/store r4 r0 1/load r5 r0 2/add r5 r5 r6/store r5 r0 2/store r0 r0 0/.thread/set r2 1/lock: set r3 0/cas r3 r0 r2 0/jne r15 r2 lock/set r6 5/load r4 r0 2/sub r4 r4 r6/store r4 r0 2/load r5 r0 1/add r5 r5 r6/store r5 r0 1/store r0 r0 0",
+    limits: MOST,
+    order: &[],
+    entries: "0 initial 1 2;1 initial 3 3;2 initial 5 5;/0 initial 1 1;0 0:2 2 6;0 0:7 7 8;2 0:6 9 9;1 0:4 11 11;/",
+    lasts: "1:13;1:12;1:10;",
+    text: "thread 0 halted steps 7 instr 12/thread 1 halted steps 13 instr 27/word 1 45/word 2 55/",
+};
+
+// The object is told to be ready before it is made: the second thread reads a field too early.
+const DOUBLE_CHECKED: Row = Row {
+    program: ".words 5/.thread/set r1 1/load r2 r0 1/jeq r2 r1 use/lock: set r3 0/cas r3 r0 r1 0/jne r15 r1 lock/load r2 r0 1/jeq r2 r1 done/store r1 r0 1/set r4 42/store r4 r0 2/store r4 r0 3/done: store r0 r0 0/use: load r5 r0 3/out r5/.thread/set r1 1/load r6 r0 4/load r6 r0 4/load r6 r0 4/load r6 r0 4/load r2 r0 1/jeq r2 r1 use/halt/use: load r5 r0 3/out r5",
+    limits: MOST,
+    order: &[],
+    entries: "1 initial 1 4;0 initial 2 3;3 0:7 9 9;/4 initial 1 4;1 0:5 5 5;3 initial 6 6;/",
+    lasts: "0:8;0:5;0:6;0:7;initial;",
+    text: "thread 0 halted steps 9 instr 15/out 42/thread 1 halted steps 6 instr 9/out 0/word 1 1/word 2 42/word 3 42/",
+};
+
+// A compare-exchange finds the value that it expects, though the stack has changed twice: its top is a node that was taken.
+const ABA: Row = Row {
+    program: ".words 4/.init 0 1/.init 1 2/.thread/load r1 r0 0/load r2 r1 0/set r7 12/wait: load r9 r0 3/addi r8 r8 1/jlt r8 r7 wait/cas r1 r0 r2 0/out r15/.thread/load r1 r0 0/load r2 r1 0/cas r1 r0 r2 0/load r3 r0 0/load r4 r3 0/cas r3 r0 r4 0/load r5 r0 0/store r5 r1 0/cas r5 r0 r1 0/out r15",
+    limits: MOST,
+    order: &[],
+    entries: "0 initial 1 1;1 initial 2 2;3 initial 3 14;0 1:12 15 16;/0 initial 1 4;1 initial 2 2;0 1:4 5 8;2 initial 6 6;0 1:8 9 12;/",
+    lasts: "0:16;1:10;initial;initial;",
+    text: "thread 0 halted steps 16 instr 41/out 1/thread 1 halted steps 12 instr 10/out 1/word 0 2/",
+};
+
+// A pair is written by two stores and read by two loads: the reader sees halves of two pairs.
+const TORN_PAIR: Row = Row {
+    program: ".words 2/.thread/set r1 1/store r1 r0 0/store r1 r0 1/.thread/load r2 r0 1/load r1 r0 0/out r2/out r1",
+    limits: MOST,
+    order: &[],
+    entries: "/1 initial 1 1;0 0:1 2 2;/",
+    lasts: "0:1;0:2;",
+    text: "thread 0 halted steps 2 instr 3/thread 1 halted steps 2 instr 4/out 0/out 1/word 0 1/word 1 1/",
+};
+
+const ROWS: [Row; 22] = [
     OWN_WRITE,
     INITIAL_VALUE,
     LOST_UPDATE,
@@ -201,6 +261,12 @@ const ROWS: [Row; 16] = [
     ONE_ENTRY,
     ARITHMETIC,
     JUMPS,
+    STORE_BUFFERING,
+    TWO_FLAGS,
+    BANK_TRANSFER,
+    DOUBLE_CHECKED,
+    ABA,
+    TORN_PAIR,
 ];
 
 // The bytes of a text whose slashes end lines.
