@@ -6,7 +6,7 @@ use Rattle.replay_model.specs.Steps.{Event, Tag, Cell}
 use Rattle.replay_model.specs.Threads.{Threads, StaysWithin, HasOnly, EndsWithin}
 use Rattle.replay_model.specs.Histories.{opening}
 use Rattle.replay_model.specs.Logs.{Limits, Log}
-use Rattle.replay_model.specs.RunLogs.{Instructions, last_tags}
+use Rattle.replay_model.specs.RunLogs.{Tallies, last_tags}
 use Rattle.replay_model.specs.Orders.{Respects}
 use Rattle.replay_model.specs.Fitting.{Fits}
 use Rattle.replay_model.specs.SkipPlay.{skip_play, ShowsRuns}
@@ -32,15 +32,15 @@ same_cells one two tags values =
     sym (get_or-map (λ (cell : Cell). cell.value) one k d 0 l) ∙ ap (λ (x : List ℕ). slice_index_or x k 0) values ∙ get_or-map (λ (cell : Cell). cell.value) two k d 0 l2 in
     λ j. record { value = q j; tag = p j })
 
-module _ (threads : Threads) (instr : Instructions) (digest : List ℕ) (limits : Limits) (initial : List ℕ) (count : ℕ) (history : List ℕ)
+module _ (threads : Threads) (tallies : Tallies) (digest : List ℕ) (limits : Limits) (initial : List ℕ) (count : ℕ) (history : List ℕ)
     (within : StaysWithin threads (length initial)) (only : HasOnly threads count) (whole : IsWholeHistory threads initial count history) where
   -- the runs of a whole history fit its log
-  pub history_fits : Fits threads instr initial (history_log threads instr digest limits initial count history) (played threads initial count history).threads
-  history_fits = sound_fits threads instr initial (history_log threads instr digest limits initial count history) (played threads initial count history)
+  pub history_fits : Fits threads tallies initial (history_log threads tallies digest limits initial count history) (played threads initial count history).threads
+  history_fits = sound_fits threads tallies initial (history_log threads tallies digest limits initial count history) (played threads initial count history)
       (going threads initial count history within only whole.legal).sound (record { logs = refl; lasts = refl }) whole.whole
 
   -- each word ends with the value that its last tag names
-  pub history_shows : ShowsRuns initial (history_log threads instr digest limits initial count history) (played threads initial count history).threads (played threads initial count history)
+  pub history_shows : ShowsRuns initial (history_log threads tallies digest limits initial count history) (played threads initial count history).threads (played threads initial count history)
   history_shows =
       let s = (going threads initial count history within only whole.legal).sound in
       record {
@@ -50,29 +50,29 @@ module _ (threads : Threads) (instr : Instructions) (digest : List ℕ) (limits 
       }
 
   -- the history's order respects its log
-  pub history_respects : Respects (history_log threads instr digest limits initial count history) (history_order threads initial count history (history_log threads instr digest limits initial count history))
-  history_respects = linear_respects threads instr initial (history_log threads instr digest limits initial count history) (played threads initial count history).threads
+  pub history_respects : Respects (history_log threads tallies digest limits initial count history) (history_order threads initial count history (history_log threads tallies digest limits initial count history))
+  history_respects = linear_respects threads tallies initial (history_log threads tallies digest limits initial count history) (played threads initial count history).threads
       (events_of threads history (opening initial count)) history_fits (history_linear threads initial count history within only whole.legal)
 
   -- the replay of the log ends as the history did
-  pub history_replayed : (order : List Event) → EndsWithin threads limits.steps → Respects (history_log threads instr digest limits initial count history) order →
-      skip_play threads initial (history_log threads instr digest limits initial count history) order ≡ played threads initial count history
+  pub history_replayed : (order : List Event) → EndsWithin threads limits.steps → Respects (history_log threads tallies digest limits initial count history) order →
+      skip_play threads initial (history_log threads tallies digest limits initial count history) order ≡ played threads initial count history
   history_replayed order stops respects =
-      let s = fit_shown threads instr initial (history_log threads instr digest limits initial count history) (played threads initial count history).threads order within stops history_fits respects in
-      let m : (skip_play threads initial (history_log threads instr digest limits initial count history) order).memory ≡ (played threads initial count history).memory =
+      let s = fit_shown threads tallies initial (history_log threads tallies digest limits initial count history) (played threads initial count history).threads order within stops history_fits respects in
+      let m : (skip_play threads initial (history_log threads tallies digest limits initial count history) order).memory ≡ (played threads initial count history).memory =
       same_cells _ (played threads initial count history).memory s.tags (s.values ∙ sym history_shows.values) in
       let r = s.threads in
       λ j. record { memory = m j; threads = r j }
 
 -- two histories with one log end in one state
-pub histories_alike : (threads : Threads) (instr : Instructions) (digest : List ℕ) (limits : Limits) (initial : List ℕ) (count : ℕ) (one two : List ℕ) →
+pub histories_alike : (threads : Threads) (tallies : Tallies) (digest : List ℕ) (limits : Limits) (initial : List ℕ) (count : ℕ) (one two : List ℕ) →
     StaysWithin threads (length initial) → HasOnly threads count → EndsWithin threads limits.steps →
     IsWholeHistory threads initial count one → IsWholeHistory threads initial count two →
-    history_log threads instr digest limits initial count one ≡ history_log threads instr digest limits initial count two →
+    history_log threads tallies digest limits initial count one ≡ history_log threads tallies digest limits initial count two →
     played threads initial count one ≡ played threads initial count two
-histories_alike threads instr digest limits initial count one two within only stops w x same =
-    let order : List Event = history_order threads initial count one (history_log threads instr digest limits initial count one) in
-    let r = history_respects threads instr digest limits initial count one within only w in
-    let a = history_replayed threads instr digest limits initial count one within only w order stops r in
-    let b = history_replayed threads instr digest limits initial count two within only x order stops (subst (λ (l : Log). Respects l order) same r) in
+histories_alike threads tallies digest limits initial count one two within only stops w x same =
+    let order : List Event = history_order threads initial count one (history_log threads tallies digest limits initial count one) in
+    let r = history_respects threads tallies digest limits initial count one within only w in
+    let a = history_replayed threads tallies digest limits initial count one within only w order stops r in
+    let b = history_replayed threads tallies digest limits initial count two within only x order stops (subst (λ (l : Log). Respects l order) same r) in
     sym a ∙ ap (λ (l : Log). skip_play threads initial l order) same ∙ b

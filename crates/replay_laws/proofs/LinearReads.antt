@@ -6,7 +6,7 @@ use Rattle.replay_model.specs.declared.Entry.{Entry}
 use Rattle.replay_model.specs.Threads.{Threads}
 use Rattle.replay_model.specs.Histories.{steps_of}
 use Rattle.replay_model.specs.Logs.{Log, HasEntry, first_event, last_event}
-use Rattle.replay_model.specs.RunLogs.{Instructions}
+use Rattle.replay_model.specs.RunLogs.{Tallies}
 use Rattle.replay_model.specs.Events.{IsEvent}
 use Rattle.replay_model.specs.Orders.{place}
 use Rattle.replay_model.specs.Fitting.{HasWritten, Fits}
@@ -18,15 +18,15 @@ use Rattle.replay_laws.proofs.Advance.{event_inside}
 use Rattle.replay_laws.proofs.Told.{told_by_fit}
 use Rattle.replay_laws.proofs.Linear.{IsSourceAt, IsLinear}
 
-module _ (threads : Threads) (instr : Instructions) (initial : List ℕ) (log : Log) (runs : List (List Step)) (all : List Event)
-    (fits : Fits threads instr initial log runs) (linear : IsLinear (length initial) runs all log.lasts) where
+module _ (threads : Threads) (tallies : Tallies) (initial : List ℕ) (log : Log) (runs : List (List Step)) (all : List Event)
+    (fits : Fits threads tallies initial log runs) (linear : IsLinear (length initial) runs all log.lasts) where
   -- what the log tells of its runs
   pub told : Told initial log runs
-  told = told_by_fit threads instr initial log runs fits
+  told = told_by_fit threads tallies initial log runs fits
 
   -- each entry stands for reads of its run
   pub entry_stands : (t : ℕ) (a : Entry) → HasEntry log t a → Stands (steps_of runs t) a
-  entry_stands t a c = thread_log-stands (steps_of runs t) a (entry-logged threads instr log runs fits.logs t a c).1
+  entry_stands t a c = thread_log-stands (steps_of runs t) a (entry-logged threads tallies log runs fits.logs t a c).1
 
   -- the first read of an entry saw its source
   pub first_read : (t : ℕ) (a : Entry) → HasEntry log t a → (a.word < length initial) × IsSourceAt runs all (place all (first_event t a)) a.word a.source

@@ -76,6 +76,7 @@ module _ (scripts : List Script) (size : ℕ) (limits : Limits) where
   pub script_keeps : limits.steps ≤ limits.instr → KeepsLimits (script_threads scripts size limits) one_each size limits
   script_keeps le = record {
     counts = λ t steps run. short t steps run (cases_Bool (nat_le (length steps) limits.steps));
+    taken = λ t steps run. omega arith;
     room = λ t steps r. guard_room size limits steps (slice_index_or {A = Script} scripts t silent (cells_found steps)) r;
     addresses = λ t steps address q. guard_addresses size limits steps (slice_index_or {A = Script} scripts t silent (cells_found steps)) address q;
   }

@@ -7,7 +7,7 @@ use Rattle.replay_model.specs.Steps.{Event, Tag, Cell, Step, no_cell}
 use Rattle.replay_model.specs.Threads.{Threads, StaysWithin, EndsWithin, IsRun}
 use Rattle.replay_model.specs.Histories.{World, steps_of, opening}
 use Rattle.replay_model.specs.Logs.{Log, last_tag, last_event}
-use Rattle.replay_model.specs.RunLogs.{Instructions, last_tags}
+use Rattle.replay_model.specs.RunLogs.{Tallies, last_tags}
 use Rattle.replay_model.specs.Events.{IsKept, keeps}
 use Rattle.replay_model.specs.Orders.{place, Respects}
 use Rattle.replay_model.specs.Fitting.{HasWritten, IsGrounded, Fits}
@@ -162,18 +162,18 @@ module _ (threads : Threads) (initial : List ℕ) (log : Log) (runs : List (List
       }
 
 -- where runs fit a log and an order respects it, the skip play shows these runs
-pub fit_shown : (threads : Threads) (instr : Instructions) (initial : List ℕ) (log : Log) (runs : List (List Step)) (order : List Event) →
-    StaysWithin threads (length initial) → EndsWithin threads log.limits.steps → Fits threads instr initial log runs → Respects log order →
+pub fit_shown : (threads : Threads) (tallies : Tallies) (initial : List ℕ) (log : Log) (runs : List (List Step)) (order : List Event) →
+    StaysWithin threads (length initial) → EndsWithin threads log.limits.steps → Fits threads tallies initial log runs → Respects log order →
     ShowsRuns initial log runs (skip_play threads initial log order)
-fit_shown threads instr initial log runs order within stops fits respects =
-    skipped threads initial log runs order (told_by_fit threads instr initial log runs fits) respects fits.run within
-    (length log.threads) (sym (logged_threads threads instr log runs fits.logs)) log.limits.steps (run_short threads runs log.limits.steps stops fits.run) fits.words fits.lasts
+fit_shown threads tallies initial log runs order within stops fits respects =
+    skipped threads initial log runs order (told_by_fit threads tallies initial log runs fits) respects fits.run within
+    (length log.threads) (sym (logged_threads threads tallies log runs fits.logs)) log.limits.steps (run_short threads runs log.limits.steps stops fits.run) fits.words fits.lasts
 
 -- the runs that fit a log are unique where some order respects it
-pub fit_unique : (threads : Threads) (instr : Instructions) (initial : List ℕ) (log : Log) (one two : List (List Step)) (order : List Event) →
+pub fit_unique : (threads : Threads) (tallies : Tallies) (initial : List ℕ) (log : Log) (one two : List (List Step)) (order : List Event) →
     StaysWithin threads (length initial) → EndsWithin threads log.limits.steps → Respects log order →
-    Fits threads instr initial log one → Fits threads instr initial log two → one ≡ two
-fit_unique threads instr initial log one two order within stops respects f g =
-    let x = fit_shown threads instr initial log one order within stops f respects in
-    let y = fit_shown threads instr initial log two order within stops g respects in
+    Fits threads tallies initial log one → Fits threads tallies initial log two → one ≡ two
+fit_unique threads tallies initial log one two order within stops respects f g =
+    let x = fit_shown threads tallies initial log one order within stops f respects in
+    let y = fit_shown threads tallies initial log two order within stops g respects in
     sym x.threads ∙ y.threads

@@ -8,7 +8,7 @@ use Rattle.replay_model.specs.declared.Entry.{Entry}
 use Rattle.replay_model.specs.Threads.{Threads, EndsWithin, IsRun}
 use Rattle.replay_model.specs.Histories.{steps_of}
 use Rattle.replay_model.specs.Logs.{Log, HasEntry, last_tag}
-use Rattle.replay_model.specs.RunLogs.{Instructions, last_tags}
+use Rattle.replay_model.specs.RunLogs.{Tallies, last_tags}
 use Rattle.replay_model.specs.Fitting.{step_at, HasWritten, IsGrounded, Fits, final_value, finals_from}
 use Rattle.replay_model.proofs.Moves.{in_range}
 use Rattle.replay_model.proofs.ThreadLogs.{nth, saw-found, thread_log-covers, thread_log-stands}
@@ -24,21 +24,21 @@ grounded_writes initial runs word cell event (inr (e, i, hw)) q =
     subst (λ (x : Event). HasWritten runs x word cell.value) same hw
 
 -- a log tells this of runs that fit it
-pub told_by_fit : (threads : Threads) (instr : Instructions) (initial : List ℕ) (log : Log) (runs : List (List Step)) → Fits threads instr initial log runs → Told initial log runs
-told_by_fit threads instr initial log runs fits = record {
+pub told_by_fit : (threads : Threads) (tallies : Tallies) (initial : List ℕ) (log : Log) (runs : List (List Step)) → Fits threads tallies initial log runs → Told initial log runs
+told_by_fit threads tallies initial log runs fits = record {
   grounded = fits.grounded;
   covered = λ t k cell l q.
       let (entry, c, a1, a2, a3, a4) = thread_log-covers (steps_of runs t) k cell l q in
-      (entry, logged-entry threads instr log runs fits.logs t entry (in_range runs t k l) c, a1, a2, a3, a4);
+      (entry, logged-entry threads tallies log runs fits.logs t entry (in_range runs t k l) c, a1, a2, a3, a4);
   inside = λ t entry c.
-      let s = thread_log-stands (steps_of runs t) entry (entry-logged threads instr log runs fits.logs t entry c).1 in (s.low, s.between, s.high);
+      let s = thread_log-stands (steps_of runs t) entry (entry-logged threads tallies log runs fits.logs t entry c).1 in (s.low, s.between, s.high);
   sources = λ t entry event c q. sources t entry event c q;
   lasts = λ event c. ends event c;
 }
   where
     sources : (t : ℕ) (entry : Entry) (event : Event) → HasEntry log t entry → entry.source ≡ Some event → (value : ℕ) × HasWritten runs event entry.word value
     sources t entry event c q =
-        let s = thread_log-stands (steps_of runs t) entry (entry-logged threads instr log runs fits.logs t entry c).1 in
+        let s = thread_log-stands (steps_of runs t) entry (entry-logged threads tallies log runs fits.logs t entry c).1 in
         let (cell, fq, wq, tq) = saw-found entry.word entry.source (word_of (nth (steps_of runs t) (entry.first - 1)).want) (nth (steps_of runs t) (entry.first - 1)).found s.first in
         let low = s.low in let between = s.between in let high = s.high in
         let g = fits.grounded t (entry.first - 1) cell (omega arith) fq in

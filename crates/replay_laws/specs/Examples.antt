@@ -231,8 +231,8 @@ abbrev pub forced_between_log : Log
 forced_between_log = record {
   digest = [];
   limits = example_limits;
-  threads = record { entries = []; steps = 3; instr = 3; end = Halted } ∷
-      record { entries = entry 1 (Some (at 0 3)) 1 1 ∷ entry 0 (Some (at 0 1)) 2 2 ∷ []; steps = 3; instr = 3; end = Halted } ∷ [];
+  threads = record { entries = []; steps = 3; instr = 3; end = Halted; taken = [] } ∷
+      record { entries = entry 1 (Some (at 0 3)) 1 1 ∷ entry 0 (Some (at 0 1)) 2 2 ∷ []; steps = 3; instr = 3; end = Halted; taken = [] } ∷ [];
   lasts = Some (at 1 3) ∷ Some (at 0 3) ∷ [];
 }
 
@@ -255,8 +255,8 @@ abbrev pub no_fit_log : Log
 no_fit_log = record {
   digest = [];
   limits = example_limits;
-  threads = record { entries = entry 0 (Some (at 1 1)) 1 1 ∷ []; steps = 1; instr = 1; end = Halted } ∷
-      record { entries = entry 0 None 1 1 ∷ []; steps = 1; instr = 1; end = Halted } ∷ [];
+  threads = record { entries = entry 0 (Some (at 1 1)) 1 1 ∷ []; steps = 1; instr = 1; end = Halted; taken = [] } ∷
+      record { entries = entry 0 None 1 1 ∷ []; steps = 1; instr = 1; end = Halted; taken = [] } ∷ [];
   lasts = Some (at 1 1) ∷ [];
 }
 
@@ -288,4 +288,4 @@ one_entry_limits = record { steps = 100; instr = 100; entries = 1 }
 -- One entry allowed: the thread ends before its second read, and the log says so
 abbrev pub OneEntry : Type 0
 OneEntry = (history_log (script_threads (reads_twice ∷ []) 2 one_entry_limits) one_each [] one_entry_limits (0 ∷ 0 ∷ []) 1 (0 ∷ 0 ∷ [])).threads ≡
-    record { entries = entry 0 None 1 1 ∷ []; steps = 2; instr = 2; end = EntriesFull } ∷ []
+    record { entries = entry 0 None 1 1 ∷ []; steps = 2; instr = 2; end = EntriesFull; taken = [] } ∷ []

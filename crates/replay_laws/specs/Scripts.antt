@@ -1,5 +1,5 @@
 -- A small machine for examples: what a thread wants next follows from the cells that its steps found.
-use Rattle.std.specs.Prelude.{ℕ, ◌&&◌, ◌≤◌, cond, nat_le, List, length, map, slice_index_or, unwrap_or}
+use Rattle.std.specs.Prelude.{ℕ, ◌&&◌, ◌≤◌, cond, nat_le, List, [], length, map, slice_index_or, unwrap_or}
 use Rattle.replay_model.specs.Steps.{Cell, Step, word_of, has_ended, reads, no_cell}
 use Rattle.replay_model.specs.declared.Want.{Want}
 use Rattle.replay_model.specs.declared.Want.TheVariants.{Ended}
@@ -8,7 +8,7 @@ use Rattle.replay_model.specs.Threads.{Threads, StaysWithin, HasOnly, EndsWithin
 use Rattle.replay_model.specs.ThreadLogs.{is_full}
 use Rattle.replay_model.specs.Logs.{Limits}
 use Rattle.replay_model.specs.KeptLimits.{KeepsLimits}
-use Rattle.replay_model.specs.RunLogs.{Instructions}
+use Rattle.replay_model.specs.RunLogs.{Tallies}
 
 -- what a thread wants next, by what each of its steps found, the empty cell for a store
 abbrev pub Script : Type 0
@@ -34,9 +34,9 @@ guarded size limits steps want =
 abbrev pub script_threads : List Script → ℕ → Limits → Threads
 script_threads scripts size limits t steps = guarded size limits steps (slice_index_or {A = Script} scripts t silent (cells_found steps))
 
--- each step counts as one instruction
-abbrev pub one_each : Instructions
-one_each t steps = length steps
+-- each step counts as one instruction, and no input number is taken
+abbrev pub one_each : Tallies
+one_each t steps = record { instr = length steps; taken = [] }
 
 -- such threads never ask for a word that is not there, are no more than their scripts, end within the limit of steps, and keep to the other limits
 abbrev pub ScriptsMeetThePremises : Type 0

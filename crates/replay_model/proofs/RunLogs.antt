@@ -9,37 +9,37 @@ use Rattle.replay_model.specs.Threads.{Threads}
 use Rattle.replay_model.specs.Histories.{steps_of}
 use Rattle.replay_model.specs.ThreadLogs.{thread_log}
 use Rattle.replay_model.specs.Logs.{ThreadLog, Log, no_thread, thread_of, HasEntry}
-use Rattle.replay_model.specs.RunLogs.{Instructions, run_log, run_logs_from, run_logs}
+use Rattle.replay_model.specs.RunLogs.{Tallies, run_log, run_logs_from, run_logs}
 
 -- one log for each run
-pub run_logs_from-length : (threads : Threads) (instr : Instructions) (m : ℕ) (runs : List (List Step)) → length (run_logs_from threads instr m runs) ≡ length runs
-run_logs_from-length threads instr m [] = refl
-run_logs_from-length threads instr m (run ∷ runs) = ap suc (run_logs_from-length threads instr (m + 1) runs)
+pub run_logs_from-length : (threads : Threads) (tallies : Tallies) (m : ℕ) (runs : List (List Step)) → length (run_logs_from threads tallies m runs) ≡ length runs
+run_logs_from-length threads tallies m [] = refl
+run_logs_from-length threads tallies m (run ∷ runs) = ap suc (run_logs_from-length threads tallies (m + 1) runs)
 
 -- each thread's log at its place
-pub run_logs_from-at : (threads : Threads) (instr : Instructions) (m : ℕ) (runs : List (List Step)) (t : ℕ) (d : ThreadLog) → t < length runs →
-    slice_index_or (run_logs_from threads instr m runs) t d ≡ run_log threads instr (m + t) (steps_of runs t)
-run_logs_from-at threads instr m [] t d l = absurd (omega (arith, l))
-run_logs_from-at threads instr m (run ∷ runs) zero d l = let z : m ≡ m + 0 = omega arith in ap (λ n. run_log threads instr n run) z
-run_logs_from-at threads instr m (run ∷ runs) (suc t) d l =
+pub run_logs_from-at : (threads : Threads) (tallies : Tallies) (m : ℕ) (runs : List (List Step)) (t : ℕ) (d : ThreadLog) → t < length runs →
+    slice_index_or (run_logs_from threads tallies m runs) t d ≡ run_log threads tallies (m + t) (steps_of runs t)
+run_logs_from-at threads tallies m [] t d l = absurd (omega (arith, l))
+run_logs_from-at threads tallies m (run ∷ runs) zero d l = let z : m ≡ m + 0 = omega arith in ap (λ n. run_log threads tallies n run) z
+run_logs_from-at threads tallies m (run ∷ runs) (suc t) d l =
     let z : (m + 1) + t ≡ m + suc t = omega arith in
-    run_logs_from-at threads instr (m + 1) runs t d (omega arith) ∙ ap (λ n. run_log threads instr n (steps_of runs t)) z
+    run_logs_from-at threads tallies (m + 1) runs t d (omega arith) ∙ ap (λ n. run_log threads tallies n (steps_of runs t)) z
 
 -- the log of thread t among those of all threads
-pub run_logs-at : (threads : Threads) (instr : Instructions) (runs : List (List Step)) (t : ℕ) (d : ThreadLog) → t < length runs →
-    slice_index_or (run_logs threads instr runs) t d ≡ run_log threads instr t (steps_of runs t)
-run_logs-at threads instr runs t d l =
+pub run_logs-at : (threads : Threads) (tallies : Tallies) (runs : List (List Step)) (t : ℕ) (d : ThreadLog) → t < length runs →
+    slice_index_or (run_logs threads tallies runs) t d ≡ run_log threads tallies t (steps_of runs t)
+run_logs-at threads tallies runs t d l =
     let z : 0 + t ≡ t = omega arith in
-    run_logs_from-at threads instr 0 runs t d l ∙ ap (λ n. run_log threads instr n (steps_of runs t)) z
+    run_logs_from-at threads tallies 0 runs t d l ∙ ap (λ n. run_log threads tallies n (steps_of runs t)) z
 
-module _ (threads : Threads) (instr : Instructions) (log : Log) (runs : List (List Step)) (logs : log.threads ≡ run_logs threads instr runs) where
+module _ (threads : Threads) (tallies : Tallies) (log : Log) (runs : List (List Step)) (logs : log.threads ≡ run_logs threads tallies runs) where
   -- the log has as many threads as runs
   pub logged_threads : length log.threads ≡ length runs
-  logged_threads = ap length logs ∙ run_logs_from-length threads instr 0 runs
+  logged_threads = ap length logs ∙ run_logs_from-length threads tallies 0 runs
 
   -- what is logged of a thread is the log of its run
-  pub logged_thread : (t : ℕ) → t < length runs → thread_of log t ≡ run_log threads instr t (steps_of runs t)
-  logged_thread t l = ap (λ (x : List ThreadLog). slice_index_or x t no_thread) logs ∙ run_logs-at threads instr runs t no_thread l
+  pub logged_thread : (t : ℕ) → t < length runs → thread_of log t ≡ run_log threads tallies t (steps_of runs t)
+  logged_thread t l = ap (λ (x : List ThreadLog). slice_index_or x t no_thread) logs ∙ run_logs-at threads tallies runs t no_thread l
 
   -- the entries of a thread are those of its run
   pub entry-logged : (t : ℕ) (entry : Entry) → HasEntry log t entry → (t < length runs) × Contains (thread_log (steps_of runs t)) entry

@@ -4,7 +4,7 @@ use Rattle.replay_model.specs.Steps.{Event, Tag, Cell, Step, word_of, wrote}
 use Rattle.replay_model.specs.Threads.{Threads, IsRun, no_step}
 use Rattle.replay_model.specs.Histories.{steps_of}
 use Rattle.replay_model.specs.Logs.{Log, last_tag}
-use Rattle.replay_model.specs.RunLogs.{Instructions, run_logs}
+use Rattle.replay_model.specs.RunLogs.{Tallies, run_logs}
 
 -- the step that an event is, in the lists of steps of all threads
 abbrev pub step_at : List (List Step) → Event → Step
@@ -23,12 +23,12 @@ IsGrounded initial runs word cell =
     ((cell.tag ≡ None) × (cell.value ≡ slice_index_or initial word 0)) ⊎ ((event : Event) × (cell.tag ≡ Some event) × HasWritten runs event word cell.value)
 
 -- each thread's steps are a run of it, in which each read found a value that was there to be found; the runs' logs are the log's; each last tag is initial or names a write to its word
-pub record Fits (threads : Threads) (instr : Instructions) (initial : List ℕ) (log : Log) (runs : List (List Step)) : Type 0 where
+pub record Fits (threads : Threads) (tallies : Tallies) (initial : List ℕ) (log : Log) (runs : List (List Step)) : Type 0 where
   pub run : (t : ℕ) → t < length runs → IsRun threads t (steps_of runs t)
   pub grounded : (t k : ℕ) (cell : Cell) → k < length (steps_of runs t) →
       (slice_index_or (steps_of runs t) k no_step).found ≡ Some cell →
       IsGrounded initial runs (word_of (slice_index_or (steps_of runs t) k no_step).want) cell
-  pub logs : log.threads ≡ run_logs threads instr runs
+  pub logs : log.threads ≡ run_logs threads tallies runs
   pub words : length log.lasts ≡ length initial
   pub lasts : (word : ℕ) (event : Event) → word < length initial → last_tag log word ≡ Some event → (value : ℕ) × HasWritten runs event word value
 

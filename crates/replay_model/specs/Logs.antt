@@ -10,12 +10,13 @@ pub record Limits : Type 0 where
   pub instr : ℕ
   pub entries : ℕ
 
--- what is logged of one thread: its entries by rising first, and its tail: how many memory steps it took, how many instructions it finished, and how it ended
+-- what is logged of one thread: its entries by rising first, and its tail: how many memory steps it took, how many instructions it finished, how it ended, and the input numbers that it took
 pub record ThreadLog : Type 0 where
   pub entries : List Entry
   pub steps : ℕ
   pub instr : ℕ
   pub end : End
+  pub taken : List ℕ
 
 -- the log of a run of all threads: the digest of the program's image, the limits, each thread's log, and the tag that each word has at the end
 pub record Log : Type 0 where
@@ -26,7 +27,7 @@ pub record Log : Type 0 where
 
 -- stands where a log has no such thread
 abbrev pub no_thread : ThreadLog
-no_thread = record { entries = []; steps = 0; instr = 0; end = Halted }
+no_thread = record { entries = []; steps = 0; instr = 0; end = Halted; taken = [] }
 
 -- what is logged of thread t
 abbrev pub thread_of : Log → ℕ → ThreadLog

@@ -7,9 +7,14 @@ use Rattle.replay_model.specs.Histories.{World}
 use Rattle.replay_model.specs.ThreadLogs.{thread_log}
 use Rattle.replay_model.specs.Logs.{Limits, ThreadLog, Log}
 
--- how many instructions each thread has finished, by its number and its memory steps so far
-abbrev pub Instructions : Type 0
-Instructions = ℕ → List Step → ℕ
+-- what is counted of a thread beside its memory steps: how many instructions it has finished, and the input numbers that it has taken
+pub record Tally : Type 0 where
+  pub instr : ℕ
+  pub taken : List ℕ
+
+-- what each thread has counted, by its number and its memory steps so far
+abbrev pub Tallies : Type 0
+Tallies = ℕ → List Step → Tally
 
 -- how a thread ended that wants nothing more
 abbrev pub end_of : Want → End
@@ -20,27 +25,33 @@ end_of (Cond word seen value) = Halted
 end_of (Ended end) = end
 
 -- the log of thread t, which took these steps and then ended
-abbrev pub run_log : Threads → Instructions → ℕ → List Step → ThreadLog
-run_log threads instr t steps = record { entries = thread_log steps; steps = length steps; instr = instr t steps; end = end_of (threads t steps) }
+abbrev pub run_log : Threads → Tallies → ℕ → List Step → ThreadLog
+run_log threads tallies t steps = record {
+  entries = thread_log steps;
+  steps = length steps;
+  instr = (tallies t steps).instr;
+  end = end_of (threads t steps);
+  taken = (tallies t steps).taken;
+}
 
 -- the logs of the threads from number t on
-abbrev pub run_logs_from : Threads → Instructions → ℕ → List (List Step) → List ThreadLog
-run_logs_from threads instr t [] = []
-run_logs_from threads instr t (run ∷ runs) = run_log threads instr t run ∷ run_logs_from threads instr (t + 1) runs
+abbrev pub run_logs_from : Threads → Tallies → ℕ → List (List Step) → List ThreadLog
+run_logs_from threads tallies t [] = []
+run_logs_from threads tallies t (run ∷ runs) = run_log threads tallies t run ∷ run_logs_from threads tallies (t + 1) runs
 
 -- the logs of all threads
-abbrev pub run_logs : Threads → Instructions → List (List Step) → List ThreadLog
-run_logs threads instr runs = run_logs_from threads instr 0 runs
+abbrev pub run_logs : Threads → Tallies → List (List Step) → List ThreadLog
+run_logs threads tallies runs = run_logs_from threads tallies 0 runs
 
 -- who wrote each word
 abbrev pub last_tags : List Cell → List Tag
 last_tags memory = map (λ (cell : Cell). cell.tag) memory
 
 -- the log of the state at the end of a play, with this digest and these limits
-abbrev pub log_of : Threads → Instructions → List ℕ → Limits → World → Log
-log_of threads instr digest limits world = record { digest = digest; limits = limits; threads = run_logs threads instr world.threads; lasts = last_tags world.memory }
+abbrev pub log_of : Threads → Tallies → List ℕ → Limits → World → Log
+log_of threads tallies digest limits world = record { digest = digest; limits = limits; threads = run_logs threads tallies world.threads; lasts = last_tags world.memory }
 
 -- the state's entries, tails and last tags are those of the log
-pub record HasLog (threads : Threads) (instr : Instructions) (log : Log) (world : World) : Type 0 where
-  pub logs : run_logs threads instr world.threads ≡ log.threads
+pub record HasLog (threads : Threads) (tallies : Tallies) (log : Log) (world : World) : Type 0 where
+  pub logs : run_logs threads tallies world.threads ≡ log.threads
   pub lasts : last_tags world.memory ≡ log.lasts

@@ -1,7 +1,7 @@
 -- Well-formed logs: what can be told of a log alone, without its program.
 use Rattle.std.specs.Prelude.{◌≡◌, ◌≢◌, ℕ, ◌<◌, ◌≤◌, ◌^◌, Some, None, length, slice_index_or, Contains}
 use Rattle.replay_model.specs.Steps.{Event, Tag, End}
-use Rattle.replay_model.specs.declared.End.TheVariants.{Halted, InstrSpent, BadAddress, StepsSpent, EntriesFull, OutputFull}
+use Rattle.replay_model.specs.declared.End.TheVariants.{Halted, InstrSpent, BadAddress, StepsSpent, EntriesFull, OutputFull, InputEmpty}
 use Rattle.replay_model.specs.ThreadLogs.{Entry}
 use Rattle.replay_model.specs.Logs.{Limits, ThreadLog, Log, thread_of, last_tag}
 
@@ -23,6 +23,7 @@ IsPossibleEnd words (BadAddress address) = words ≤ address
 IsPossibleEnd words StepsSpent = Prim.Unit {0}
 IsPossibleEnd words EntriesFull = Prim.Unit {0}
 IsPossibleEnd words OutputFull = Prim.Unit {0}
+IsPossibleEnd words InputEmpty = Prim.Unit {0}
 
 -- the event is a step that its thread took
 pub record IsTaken (log : Log) (event : Event) : Type 0 where
@@ -49,6 +50,7 @@ pub record IsThreadOf (log : Log) (thread : ThreadLog) : Type 0 where
   pub instr : thread.instr ≤ log.limits.instr
   pub entries : length thread.entries ≤ log.limits.entries
   pub end : IsPossibleEnd (length log.lasts) thread.end
+  pub taken : length thread.taken ≤ 65536
   pub each : (entry : Entry) → Contains thread.entries entry → IsEntryOf log thread entry
   pub rising : (i j : ℕ) (d : Entry) → i < j → j < length thread.entries →
       (slice_index_or thread.entries i d).first < (slice_index_or thread.entries j d).first

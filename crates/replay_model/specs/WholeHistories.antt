@@ -4,7 +4,7 @@ use Rattle.replay_model.specs.Steps.{Event}
 use Rattle.replay_model.specs.Threads.{Threads}
 use Rattle.replay_model.specs.Histories.{World, opening, play, IsLegal, IsWhole}
 use Rattle.replay_model.specs.Logs.{Limits, Log}
-use Rattle.replay_model.specs.RunLogs.{Instructions, log_of}
+use Rattle.replay_model.specs.RunLogs.{Tallies, log_of}
 use Rattle.replay_model.specs.Events.{is_event, events_of}
 
 -- the state at the end of a history that begins with the initial values
@@ -17,8 +17,8 @@ pub record IsWholeHistory (threads : Threads) (initial : List ℕ) (count : ℕ)
   pub whole : IsWhole threads (played threads initial count history)
 
 -- the log of a history, with this digest and these limits
-abbrev pub history_log : Threads → Instructions → List ℕ → Limits → List ℕ → ℕ → List ℕ → Log
-history_log threads instr digest limits initial count history = log_of threads instr digest limits (played threads initial count history)
+abbrev pub history_log : Threads → Tallies → List ℕ → Limits → List ℕ → ℕ → List ℕ → Log
+history_log threads tallies digest limits initial count history = log_of threads tallies digest limits (played threads initial count history)
 
 -- those steps of a history that are events of the log, in the history's order
 abbrev pub history_order : Threads → List ℕ → ℕ → List ℕ → Log → List Event

@@ -19,6 +19,8 @@ pub enum End {
     EntriesFull,
     /// An output instruction stands there, and the thread has put out as many values as there may be.
     OutputFull,
+    /// An input instruction stands there, and the thread has taken all numbers of its input list.
+    InputEmpty,
 }
 
 /// What a thread wants of the shared memory next.

@@ -11,8 +11,8 @@ pub returns-clause-respects : goal.returns-clause-respects
 returns-clause-respects c = history_respects
 
 pub returns-clause-replayed : goal.returns-clause-replayed
-returns-clause-replayed c threads instr digest limits initial count history order within only stops whole respects =
-    history_replayed threads instr digest limits initial count history within only whole order stops respects
+returns-clause-replayed c threads tallies digest limits initial count history order within only stops whole respects =
+    history_replayed threads tallies digest limits initial count history within only whole order stops respects
 
 pub returns-clause-alike : goal.returns-clause-alike
 returns-clause-alike c = histories_alike
