@@ -8,7 +8,8 @@ use machine::Limits;
 use std::marker::Model;
 
 /// The log of a run of all threads: the digest of the program's image, the limits, each thread's log, and the tag that
-/// each word has at the end. It has 1 to 15 threads with at most 16,384 entries each, and 1 to 4,096 words.
+/// each word has at the end. It has 1 to 15 threads with at most 16,384 entries and 65,536 input numbers each, and 1 to
+/// 4,096 words.
 #[derive(Debug, Drop)]
 pub struct RunLog {
     digest: [u8; 32],

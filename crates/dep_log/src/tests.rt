@@ -74,7 +74,7 @@ fn a_run_log_has_its_parts(rt: HostRuntime) -> Result<(), Fail> {
     let own = Event { thread: 0, step: 1 }.tag();
     let entries = Vec::from_slice(alloc, &[entry(0, own, 2, 2)])?;
     let mut threads = Vec::new(alloc);
-    threads.push(ThreadLog::new(entries, 2, 4, End::Halted))?;
+    threads.push(ThreadLog::new(entries, 2, 4, End::Halted, Vec::new(alloc)))?;
     let finals = Vec::from_slice(alloc, &[own])?;
     let limits = Limits::new(100, 200, 300).ok_or("no limits")?;
     let mut log = RunLog::new([0; 32], limits, threads, finals);

@@ -8,16 +8,16 @@ use Rattle.replay_model.specs.Fitting.{Fits}
 use Rattle.replay_model.specs.SkipPlay.{skip_play}
 use Rattle.replay_model.specs.WholeHistories.{history_log, history_order}
 use Rattle.machine.specs.Programs.{ProgramValue, LimitsValue, IsProgram, AreLimits}
-use Rattle.machine.specs.Runs.{threads_of, instructions_of, world_after}
+use Rattle.machine.specs.Runs.{threads_of, tallies_of, world_after}
 use Rattle.history.specs.Histories.{IsHistory}
 
 -- the log of a history of the program, with this digest
 abbrev pub log_of_history : ProgramValue → LimitsValue → List ℕ → List ℕ → Log
-log_of_history p limits digest history = history_log (threads_of p limits) (instructions_of p limits) digest limits p.words (length p.threads) history
+log_of_history p limits digest history = history_log (threads_of p limits) (tallies_of p limits) digest limits p.words (length p.threads) history
 
 -- runs of the program's threads fit a log
 abbrev pub FitsProgram : ProgramValue → LimitsValue → Log → List (List Step) → Type 0
-FitsProgram p limits log runs = Fits (threads_of p limits) (instructions_of p limits) p.words log runs
+FitsProgram p limits log runs = Fits (threads_of p limits) (tallies_of p limits) p.words log runs
 
 -- the log of a history of a program is well formed
 abbrev pub HistoryLogsAreWellFormed : Type 0

@@ -50,7 +50,7 @@ fn a_log_with_an_entry(rt: HostRuntime) -> Result<(), Fail> {
         last: 2,
     };
     let mut threads = Vec::new(alloc);
-    threads.push(ThreadLog::new(Vec::from_slice(alloc, &[entry])?, 2, 4, End::Halted))?;
+    threads.push(ThreadLog::new(Vec::from_slice(alloc, &[entry])?, 2, 4, End::Halted, Vec::new(alloc)))?;
     let finals = Vec::from_slice(alloc, &[own])?;
     let limits = Limits::new(100, 100, 100).ok_or("no limits")?;
     let log = RunLog::new(DIGEST, limits, threads, finals);

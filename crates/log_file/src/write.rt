@@ -1,8 +1,9 @@
 // The bytes of a log.
 ghost use Rattle.std.specs.Prelude.{◌≡◌, ◌+◌, ◌*◌, ◌≤◌, ◌++◌, All, IfOk, OnOk, length};
 ghost use Rattle.std.specs.List.{flat_map};
+ghost use Rattle.std.specs.Int.{w32, to_be_bytes};
 ghost use Rattle.dep_log.specs.RunLogs.{IsRunLog};
-ghost use Rattle.log_file.specs.Spelling.{address_of_end, code_of_end, entries_bytes, entry_count, entry_bytes, head_bytes, header_bytes, limits_bytes, spelling, tag_bytes, text_len};
+ghost use Rattle.log_file.specs.Spelling.{address_of_end, code_of_end, entries_bytes, entry_count, entry_bytes, head_bytes, header_bytes, limits_bytes, spelling, tag_bytes, taken_bytes, taken_count, text_len};
 
 use dep_log::{Entry, RunLog, ThreadLog};
 use light_base::{Memory, Tag, put_u16, put_u32};
@@ -10,7 +11,7 @@ use machine::{End, Limits};
 use std::alloc::Global;
 
 /// The first four bytes of each log.
-const MAGIC: [u8; 4] = *b"LLG1";
+const MAGIC: [u8; 4] = *b"LLG2";
 
 /// The one text of a log.
 pub fn write_log(alloc: Global, log: &RunLog) -> Result<Vec<u8>, Memory>
@@ -22,6 +23,7 @@ pub fn write_log(alloc: Global, log: &RunLog) -> Result<Vec<u8>, Memory>
     put_headers(&mut out, log.threads())?;
     put_tags(&mut out, log.finals())?;
     put_all_entries(&mut out, log.threads())?;
+    put_all_taken(&mut out, log.threads())?;
     Ok(out)
 }
 
@@ -29,7 +31,11 @@ pub fn write_log(alloc: Global, log: &RunLog) -> Result<Vec<u8>, Memory>
 fn text_len(log: &RunLog) -> usize
     ensures { result ≡ text_len log.now }
 {
-    51 + 17 * log.threads().len() + 4 * log.finals().len() + 14 * entry_count(log.threads())
+    let threads = log.threads();
+    51 + 21 * threads.len()
+        + 4 * log.finals().len()
+        + 14 * entry_count(threads)
+        + 4 * taken_count(threads)
 }
 
 // How many entries all threads have.
@@ -42,6 +48,20 @@ fn entry_count(threads: &[ThreadLog]) -> usize
     let mut count = 0;
     for thread in threads {
         count += thread.entries().len();
+    }
+    count
+}
+
+// How many input numbers all threads took.
+fn taken_count(threads: &[ThreadLog]) -> usize
+    requires few { length threads.now ≤ 15 }
+    requires short { All (λ thread. length thread.taken ≤ 65536) threads.now }
+    ensures value { result ≡ taken_count threads.now }
+    ensures bound { result ≤ 65536 * length threads.now }
+{
+    let mut count = 0;
+    for thread in threads {
+        count += thread.taken().len();
     }
     count
 }
@@ -67,7 +87,8 @@ fn put_limits(out: &mut Vec<u8>, limits: &Limits) -> Result<(), Memory>
 }
 
 fn put_headers(out: &mut Vec<u8>, threads: &[ThreadLog]) -> Result<(), Memory>
-    requires { All (λ thread. length thread.entries ≤ 16384) threads.now }
+    requires entries { All (λ thread. length thread.entries ≤ 16384) threads.now }
+    requires taken { All (λ thread. length thread.taken ≤ 65536) threads.now }
     ensures { OnOk result (out.new.items ≡ out.old.items ++ flat_map header_bytes threads.now) }
 {
     for thread in threads {
@@ -77,14 +98,16 @@ fn put_headers(out: &mut Vec<u8>, threads: &[ThreadLog]) -> Result<(), Memory>
 }
 
 fn put_header(out: &mut Vec<u8>, thread: &ThreadLog) -> Result<(), Memory>
-    requires { length thread.now.entries ≤ 16384 }
+    requires entries { length thread.now.entries ≤ 16384 }
+    requires taken { length thread.now.taken ≤ 65536 }
     ensures { OnOk result (out.new.items ≡ out.old.items ++ header_bytes thread.now) }
 {
     out.push(code_of(thread.end()))?;
     put_u32(out, address_of(thread.end()))?;
     put_u32(out, thread.steps())?;
     put_u32(out, thread.instr())?;
-    put_u32(out, thread.entries().len() as u32)
+    put_u32(out, thread.entries().len() as u32)?;
+    put_u32(out, thread.taken().len() as u32)
 }
 
 // The number of an end.
@@ -98,6 +121,7 @@ fn code_of(end: End) -> u8
         End::StepsSpent => 3,
         End::EntriesFull => 4,
         End::OutputFull => 5,
+        End::InputEmpty => 6,
     }
 }
 
@@ -145,4 +169,22 @@ fn put_entry(out: &mut Vec<u8>, entry: &Entry) -> Result<(), Memory>
     put_u32(out, entry.source.bits())?;
     put_u32(out, entry.first)?;
     put_u32(out, entry.last)
+}
+
+fn put_all_taken(out: &mut Vec<u8>, threads: &[ThreadLog]) -> Result<(), Memory>
+    ensures { OnOk result (out.new.items ≡ out.old.items ++ flat_map taken_bytes threads.now) }
+{
+    for thread in threads {
+        put_numbers(out, thread.taken())?;
+    }
+    Ok(())
+}
+
+fn put_numbers(out: &mut Vec<u8>, numbers: &[u32]) -> Result<(), Memory>
+    ensures { OnOk result (out.new.items ≡ out.old.items ++ flat_map (to_be_bytes w32) numbers.now) }
+{
+    for number in numbers {
+        put_u32(out, *number)?;
+    }
+    Ok(())
 }

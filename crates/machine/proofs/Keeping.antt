@@ -11,7 +11,7 @@ use Rattle.machine.specs.declared.cores.Expected.{Expected}
 use Rattle.machine.specs.declared.program.Instr.{Instr}
 use Rattle.machine.specs.Programs.{ProgramValue, LimitsValue, code_of}
 use Rattle.machine.specs.Cores.{State, first_state, comes_to, instr_or_halt, waiting_or, run_local, run_on, resumed, settled, took}
-use Rattle.machine.specs.Runs.{state_after, threads_of, instructions_of}
+use Rattle.machine.specs.Runs.{state_after, threads_of, tallies_of}
 use Rattle.machine.proofs.Local.{GoesOn, going_instr}
 use Rattle.machine.proofs.Rests.{IsAsked, settled-none}
 use Rattle.machine.proofs.Took.{took_takes}
@@ -62,10 +62,10 @@ prefix_most p limits t steps run (suc k) l =
     subst P (sym longer) (subst Q (sym (after_step p limits t so_far step))
     (settled_most p limits (is_full limits.entries (so_far ++ step ∷ [])) (took before step.found) takes.pending (omega (arith, counts, room))))
 
-run_instructions : (p : ProgramValue) (limits : LimitsValue) (t : ℕ) (steps : List Step) → IsRun (threads_of p limits) t steps → instructions_of p limits t steps ≤ limits.instr
+run_instructions : (p : ProgramValue) (limits : LimitsValue) (t : ℕ) (steps : List Step) → IsRun (threads_of p limits) t steps → (tallies_of p limits t steps).instr ≤ limits.instr
 run_instructions p limits t steps run =
     let all : take (length steps) steps ≡ steps = take-length steps in
-    let P : List Step → Type 0 = λ list. instructions_of p limits t list ≤ limits.instr in
+    let P : List Step → Type 0 = λ list. (tallies_of p limits t list).instr ≤ limits.instr in
     subst P all (prefix_most p limits t steps run (length steps) (omega arith))
 
 -- ---- what is asked for is within the limits
@@ -73,9 +73,10 @@ run_instructions p limits t steps run =
 threads_asked : (p : ProgramValue) (limits : LimitsValue) (t : ℕ) (steps : List Step) → IsAsked (length p.words) (is_full limits.entries steps) (threads_of p limits t steps)
 threads_asked p limits t steps = subst (IsAsked (length p.words) (is_full limits.entries steps)) (sym (wanted_of p limits t steps)) (state_after-stands p limits t steps).asked
 
-pub keeps_limits : (p : ProgramValue) (limits : LimitsValue) → KeepsLimits (threads_of p limits) (instructions_of p limits) (length p.words) limits
+pub keeps_limits : (p : ProgramValue) (limits : LimitsValue) → KeepsLimits (threads_of p limits) (tallies_of p limits) (length p.words) limits
 keeps_limits p limits = record {
   counts = run_instructions p limits;
+  taken = λ t steps run. omega arith;
   room = λ t steps. (threads_asked p limits t steps).room;
   addresses = λ t steps address e. (threads_asked p limits t steps).address address e;
 }

@@ -7,7 +7,7 @@ use Rattle.replay_model.specs.ThreadLogs.{is_full}
 use Rattle.replay_model.specs.KeptLimits.{KeepsLimits}
 use Rattle.machine.specs.Programs.{ProgramValue, LimitsValue}
 use Rattle.machine.specs.Cores.{State, settled, took}
-use Rattle.machine.specs.Runs.{state_after, threads_of, instructions_of}
+use Rattle.machine.specs.Runs.{state_after, threads_of, tallies_of}
 
 -- no thread asks for a word that the program does not have
 abbrev pub StayWithinWords : Type 0
@@ -44,7 +44,7 @@ StaySettled = (p : ProgramValue) (limits : LimitsValue) (full : Bool) (s : State
 
 -- the threads keep to their limits: no run has more instructions, no read comes where the log is full, and an address is bad only where no word has it
 abbrev pub KeepToLimits : Type 0
-KeepToLimits = (p : ProgramValue) (limits : LimitsValue) → KeepsLimits (threads_of p limits) (instructions_of p limits) (length p.words) limits
+KeepToLimits = (p : ProgramValue) (limits : LimitsValue) → KeepsLimits (threads_of p limits) (tallies_of p limits) (length p.words) limits
 
 -- the last of these steps of a thread was a load of this word, which found a cell with this tag
 pub record FollowsLoad (threads : Threads) (t : ℕ) (steps : List Step) (word : ℕ) (seen : Tag) : Type 0 where

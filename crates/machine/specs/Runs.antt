@@ -5,7 +5,7 @@ use Rattle.light_base.specs.declared.tag.Cell.{Cell}
 use Rattle.replay_model.specs.Steps.{Step}
 use Rattle.replay_model.specs.Threads.{Threads}
 use Rattle.replay_model.specs.ThreadLogs.{is_full}
-use Rattle.replay_model.specs.RunLogs.{Instructions}
+use Rattle.replay_model.specs.RunLogs.{Tallies}
 use Rattle.replay_model.specs.Histories.{World, steps_of, opening, play, rounds, follow}
 use Rattle.machine.specs.Programs.{ProgramValue, LimitsValue}
 use Rattle.machine.specs.Cores.{State, Report, first_state, settled, took, pending_want, report_of}
@@ -24,9 +24,9 @@ state_after p limits t steps = state_from p limits [] (first_state t) steps
 abbrev pub threads_of : ProgramValue → LimitsValue → Threads
 threads_of p limits t steps = pending_want (state_after p limits t steps)
 
--- how many instructions each thread has finished after its steps
-abbrev pub instructions_of : ProgramValue → LimitsValue → Instructions
-instructions_of p limits t steps = (state_after p limits t steps).instr
+-- what each thread has counted after its steps
+abbrev pub tallies_of : ProgramValue → LimitsValue → Tallies
+tallies_of p limits t steps = record { instr = (state_after p limits t steps).instr; taken = [] }
 
 -- before any step
 abbrev pub start_of : ProgramValue → World

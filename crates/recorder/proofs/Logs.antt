@@ -20,7 +20,7 @@ use Rattle.replay_model.proofs.RunLogs.{run_logs_from-length, run_logs-at}
 use Rattle.replay_laws.proofs.WellFormedLog.{history_formed}
 use Rattle.machine.specs.Programs.{ProgramValue, LimitsValue, IsProgram, AreLimits}
 use Rattle.machine.specs.Cores.{State, Report, pending_want, end_of, end_or_halted, report_of}
-use Rattle.machine.specs.Runs.{state_after, threads_of, instructions_of, world_after, reports_of}
+use Rattle.machine.specs.Runs.{state_after, threads_of, tallies_of, world_after, reports_of}
 use Rattle.machine.proofs.Runs.{stays_within, has_only, ends_within, counts_steps}
 use Rattle.machine.proofs.Keeping.{keeps_limits}
 use Rattle.dep_log.specs.RunLogs.{IsRunLog}
@@ -39,7 +39,7 @@ ends-alike (Ended end) = refl
 
 -- the log by a thread's report is that of its steps
 log_by-report : (p : ProgramValue) (limits : LimitsValue) (t : ℕ) (steps : List Step) →
-    log_by (thread_log steps) (report_of (state_after p limits t steps)) ≡ run_log (threads_of p limits) (instructions_of p limits) t steps
+    log_by (thread_log steps) (report_of (state_after p limits t steps)) ≡ run_log (threads_of p limits) (tallies_of p limits) t steps
 log_by-report p limits t steps =
     let s : State = state_after p limits t steps in
     let log : ℕ → End → ThreadLog = λ n e. record { entries = thread_log steps; steps = n; instr = s.instr; end = e } in
@@ -52,8 +52,8 @@ logs_by-map f g (t ∷ ts) = ap (λ (logs : List ThreadLog). log_by (f t) (g t) 
 
 -- the logs of runs, made for each thread
 runs-logged : (p : ProgramValue) (limits : LimitsValue) (runs : List (List Step)) →
-    map (λ (t : ℕ). log_by (thread_log (steps_of runs t)) (report_of (state_after p limits t (steps_of runs t)))) (range_with_len 0 (length runs)) ≡ run_logs (threads_of p limits) (instructions_of p limits) runs
-runs-logged p limits runs = ext_get_or no_thread made (run_logs (threads_of p limits) (instructions_of p limits) runs) (count ∙ sym counted) each
+    map (λ (t : ℕ). log_by (thread_log (steps_of runs t)) (report_of (state_after p limits t (steps_of runs t)))) (range_with_len 0 (length runs)) ≡ run_logs (threads_of p limits) (tallies_of p limits) runs
+runs-logged p limits runs = ext_get_or no_thread made (run_logs (threads_of p limits) (tallies_of p limits) runs) (count ∙ sym counted) each
   where
     by : ℕ → ThreadLog
     by t = log_by (thread_log (steps_of runs t)) (report_of (state_after p limits t (steps_of runs t)))
@@ -64,19 +64,19 @@ runs-logged p limits runs = ext_get_or no_thread made (run_logs (threads_of p li
     count : length made ≡ length runs
     count = length-map-range_with_len by 0 (length runs)
 
-    counted : length (run_logs (threads_of p limits) (instructions_of p limits) runs) ≡ length runs
-    counted = run_logs_from-length (threads_of p limits) (instructions_of p limits) 0 runs
+    counted : length (run_logs (threads_of p limits) (tallies_of p limits) runs) ≡ length runs
+    counted = run_logs_from-length (threads_of p limits) (tallies_of p limits) 0 runs
 
-    each : (i : ℕ) → i < length made → slice_index_or made i no_thread ≡ slice_index_or (run_logs (threads_of p limits) (instructions_of p limits) runs) i no_thread
+    each : (i : ℕ) → i < length made → slice_index_or made i no_thread ≡ slice_index_or (run_logs (threads_of p limits) (tallies_of p limits) runs) i no_thread
     each i l =
         let here : i < length runs = let n = count in omega (arith, n, l) in
         get_or-map-range_with_len by 0 (length runs) i i no_thread here (omega arith) ∙ log_by-report p limits i (steps_of runs i) ∙
-        sym (run_logs-at (threads_of p limits) (instructions_of p limits) runs i no_thread here)
+        sym (run_logs-at (threads_of p limits) (tallies_of p limits) runs i no_thread here)
 
 -- the logs of the threads of a machine
 pub played-logged : (played : Played) →
     logs_by (entries_by played (range_with_len 0 (length played.program.threads))) (reports_of played.program played.limits (world_of played)) ≡
-    run_logs (threads_in played) (instructions_of played.program played.limits) (world_of played).threads
+    run_logs (threads_in played) (tallies_of played.program played.limits) (world_of played).threads
 played-logged played =
     logs_by-map (λ (t : ℕ). thread_log (thread_steps played t)) (λ (t : ℕ). report_of (state_after played.program played.limits t (thread_steps played t))) (range_with_len 0 (length played.program.threads)) ∙
     ap (λ (n : ℕ). map (λ (t : ℕ). log_by (thread_log (thread_steps played t)) (report_of (state_after played.program played.limits t (thread_steps played t)))) (range_with_len 0 n)) (sym (threads_count played)) ∙
@@ -94,10 +94,10 @@ formed-fits log formed = record {
 
 -- the log of a history is such a log
 pub history-fits : (p : ProgramValue) (limits : LimitsValue) (digest history : List ℕ) → IsProgram p → AreLimits limits → IsHistory p limits history →
-    IsRunLog (log_of (threads_of p limits) (instructions_of p limits) digest limits (world_after p limits history))
+    IsRunLog (log_of (threads_of p limits) (tallies_of p limits) digest limits (world_after p limits history))
 history-fits p limits digest history rules bounds whole =
-    formed-fits (log_of (threads_of p limits) (instructions_of p limits) digest limits (world_after p limits history))
-    (history_formed (threads_of p limits) (instructions_of p limits) digest limits p.words (length p.threads) history (stays_within p limits) (has_only p limits) (ends_within p limits) (keeps_limits p limits)
+    formed-fits (log_of (threads_of p limits) (tallies_of p limits) digest limits (world_after p limits history))
+    (history_formed (threads_of p limits) (tallies_of p limits) digest limits p.words (length p.threads) history (stays_within p limits) (has_only p limits) (ends_within p limits) (keeps_limits p limits)
     (record {
       some_thread = rules.some_threads;
       threads = rules.most_threads;

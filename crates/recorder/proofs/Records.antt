@@ -7,7 +7,7 @@ use Rattle.replay_model.specs.Logs.{ThreadLog, Log}
 use Rattle.replay_model.specs.RunLogs.{run_logs, last_tags}
 use Rattle.machine.specs.Programs.{ProgramValue, LimitsValue, IsProgram, AreLimits}
 use Rattle.machine.specs.Cores.{Report}
-use Rattle.machine.specs.Runs.{threads_of, instructions_of, reports_of, values_of}
+use Rattle.machine.specs.Runs.{threads_of, tallies_of, reports_of, values_of}
 use Rattle.dep_log.specs.RunLogs.{IsRunLog}
 use Rattle.history.specs.Played.{Played, world_of}
 use Rattle.history.specs.Histories.{IsHistory}
@@ -31,7 +31,7 @@ module _ (played : Played) (p : ProgramValue) (limits : LimitsValue) (program : 
       ap (λ (l : LimitsValue). record { program = p; limits = l; taken = played.taken }) bounds
 
   module _ (all : List (List Entry)) (reports : List Report) (threads : List ThreadLog) (lasts : List Tag) (finals : List ℕ) (c : Comes played all reports threads lasts finals) where
-    logged : threads ≡ run_logs (threads_of played.program played.limits) (instructions_of played.program played.limits) (world_of played).threads
+    logged : threads ≡ run_logs (threads_of played.program played.limits) (tallies_of played.program played.limits) (world_of played).threads
     logged = c.logged ∙ ap (λ (all : List (List Entry)). logs_by all reports) c.entries ∙ ap (logs_by (entries_by played (range_with_len 0 (length played.program.threads)))) c.reported ∙ played-logged played
 
     -- these parts are the record of the history
@@ -40,9 +40,9 @@ module _ (played : Played) (p : ProgramValue) (limits : LimitsValue) (program : 
         let made : LimitsValue → List ThreadLog → List Tag → List Report → List ℕ → RecordedValue = λ l ts tags rs vs. record { log = record { digest = no_digest; limits = l; threads = ts; lasts = tags }; reports = rs; finals = vs } in
         ap (λ (l : LimitsValue). made l threads lasts reports finals) (sym bounds) ∙
         ap (λ (ts : List ThreadLog). made played.limits ts lasts reports finals) logged ∙
-        ap (λ (tags : List Tag). made played.limits (run_logs (threads_of played.program played.limits) (instructions_of played.program played.limits) (world_of played).threads) tags reports finals) c.tags ∙
-        ap (λ (rs : List Report). made played.limits (run_logs (threads_of played.program played.limits) (instructions_of played.program played.limits) (world_of played).threads) (last_tags (world_of played).memory) rs finals) c.reported ∙
-        ap (made played.limits (run_logs (threads_of played.program played.limits) (instructions_of played.program played.limits) (world_of played).threads) (last_tags (world_of played).memory) (reports_of played.program played.limits (world_of played))) c.values ∙
+        ap (λ (tags : List Tag). made played.limits (run_logs (threads_of played.program played.limits) (tallies_of played.program played.limits) (world_of played).threads) tags reports finals) c.tags ∙
+        ap (λ (rs : List Report). made played.limits (run_logs (threads_of played.program played.limits) (tallies_of played.program played.limits) (world_of played).threads) (last_tags (world_of played).memory) rs finals) c.reported ∙
+        ap (made played.limits (run_logs (threads_of played.program played.limits) (tallies_of played.program played.limits) (world_of played).threads) (last_tags (world_of played).memory) (reports_of played.program played.limits (world_of played))) c.values ∙
         ap (λ (q : Played). recorded_of q.program q.limits q.taken) same
 
     -- and the log is one that a program can hold

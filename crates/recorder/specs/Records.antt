@@ -5,7 +5,7 @@ use Rattle.replay_model.specs.Logs.{Log}
 use Rattle.replay_model.specs.RunLogs.{log_of}
 use Rattle.machine.specs.Programs.{ProgramValue, LimitsValue}
 use Rattle.machine.specs.Cores.{Report}
-use Rattle.machine.specs.Runs.{threads_of, instructions_of, world_after, reports_of, values_of}
+use Rattle.machine.specs.Runs.{threads_of, tallies_of, world_after, reports_of, values_of}
 
 -- the log of a run, what each thread reports, and the last value of each word
 pub record RecordedValue : Type 0 where
@@ -20,7 +20,7 @@ no_digest = replicate 32 0
 -- what is recorded of a run that ended like this
 abbrev pub record_of : ProgramValue → LimitsValue → World → RecordedValue
 record_of p limits world = record {
-  log = log_of (threads_of p limits) (instructions_of p limits) no_digest limits world;
+  log = log_of (threads_of p limits) (tallies_of p limits) no_digest limits world;
   reports = reports_of p limits world;
   finals = values_of world;
 }

@@ -1,11 +1,11 @@
 use Rattle.std.proofs.Common.{length, arith}
-use Rattle.machine.specs.Runs.{threads_of, instructions_of}
+use Rattle.machine.specs.Runs.{threads_of, tallies_of}
 use Rattle.history.proofs.laws.history_log_law.Goals as goal
 
 pub returns : goal.returns
 returns c = record {
   well_formed = λ p limits digest history rules bounds whole.
-      c.log_law.ensures (threads_of p limits) (instructions_of p limits) digest limits p.words (length p.threads) history
+      c.log_law.ensures (threads_of p limits) (tallies_of p limits) digest limits p.words (length p.threads) history
       (c.machine_law.ensures.within p limits) (c.machine_law.ensures.only p limits) (c.machine_law.ensures.ends p limits) (c.machine_law.ensures.keeps p limits)
       (record {
         some_thread = rules.some_threads;
@@ -17,15 +17,15 @@ returns c = record {
         entries = bounds.entries;
       }) whole;
   fits = λ p limits digest history whole.
-      c.history_law.ensures.fits (threads_of p limits) (instructions_of p limits) digest limits p.words (length p.threads) history
+      c.history_law.ensures.fits (threads_of p limits) (tallies_of p limits) digest limits p.words (length p.threads) history
       (c.machine_law.ensures.within p limits) (c.machine_law.ensures.only p limits) whole;
   respects = λ p limits digest history whole.
-      c.history_law.ensures.respects (threads_of p limits) (instructions_of p limits) digest limits p.words (length p.threads) history
+      c.history_law.ensures.respects (threads_of p limits) (tallies_of p limits) digest limits p.words (length p.threads) history
       (c.machine_law.ensures.within p limits) (c.machine_law.ensures.only p limits) whole;
   replays = λ p limits digest history order whole respects.
-      c.history_law.ensures.replayed (threads_of p limits) (instructions_of p limits) digest limits p.words (length p.threads) history order
+      c.history_law.ensures.replayed (threads_of p limits) (tallies_of p limits) digest limits p.words (length p.threads) history order
       (c.machine_law.ensures.within p limits) (c.machine_law.ensures.only p limits) (c.machine_law.ensures.ends p limits) whole respects;
   unique = λ p log one two order respects fits also.
-      c.skip_law.ensures.unique (threads_of p log.limits) (instructions_of p log.limits) p.words log one two order
+      c.skip_law.ensures.unique (threads_of p log.limits) (tallies_of p log.limits) p.words log one two order
       (c.machine_law.ensures.within p log.limits) (c.machine_law.ensures.ends p log.limits) respects fits also;
 }
