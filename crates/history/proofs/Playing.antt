@@ -9,6 +9,7 @@ use Rattle.replay_model.specs.Histories.{World, steps_of, play, keep_all, IsLega
 use Rattle.replay_model.proofs.Moves.{move_shape, set_here, set_there, opening_steps}
 use Rattle.replay_model.proofs.Plays.{play-push, play_count, play_memory, legal-push}
 use Rattle.machine.specs.Programs.{ProgramValue, LimitsValue, IsProgram}
+use Rattle.machine.specs.Inputs.{InputsValue}
 use Rattle.machine.specs.Runs.{start_of}
 use Rattle.machine.proofs.Runs.{ends_within}
 use Rattle.history.specs.declared.seat.Seat.{Seat}
@@ -25,23 +26,23 @@ words_count played = play_memory (threads_in played) played.taken (start_of play
 
 -- one thread's part is replaced
 pub each_seat : (played : Played) (steps : ℕ → List Step) (seats : List Seat) (t : ℕ) (new : Seat) → t < length seats →
-    IsSeat played.program played.limits t (steps t) new →
-    ((u : ℕ) (seat : Seat) → (u ≡ t → ⊥) → u < length seats → IsSeat played.program played.limits u (steps u) (slice_index_or seats u seat)) →
-    (u : ℕ) (seat : Seat) → u < length (slice_set seats t new) → IsSeat played.program played.limits u (steps u) (slice_index_or (slice_set seats t new) u seat)
+    IsSeat played.program played.limits played.inputs t (steps t) new →
+    ((u : ℕ) (seat : Seat) → (u ≡ t → ⊥) → u < length seats → IsSeat played.program played.limits played.inputs u (steps u) (slice_index_or seats u seat)) →
+    (u : ℕ) (seat : Seat) → u < length (slice_set seats t new) → IsSeat played.program played.limits played.inputs u (steps u) (slice_index_or (slice_set seats t new) u seat)
 each_seat played steps seats t new l here there u seat ul = go (cases_eq u t)
   where
     in_range : u < length seats
     in_range = let k = length-set seats t new in omega (arith, k, ul)
 
-    go : (u ≡ t) ⊎ (u ≡ t → ⊥) → IsSeat played.program played.limits u (steps u) (slice_index_or (slice_set seats t new) u seat)
+    go : (u ≡ t) ⊎ (u ≡ t → ⊥) → IsSeat played.program played.limits played.inputs u (steps u) (slice_index_or (slice_set seats t new) u seat)
     go (inl e) =
-        let P : ℕ → Type 0 = λ v. IsSeat played.program played.limits v (steps v) (slice_index_or (slice_set seats t new) v seat) in
-        subst P (sym e) (subst (IsSeat played.program played.limits t (steps t)) (sym (get_or-set_same seats t new seat l)) here)
-    go (inr n) = subst (IsSeat played.program played.limits u (steps u)) (sym (get_or-set_other seats t u new seat n)) (there u seat n in_range)
+        let P : ℕ → Type 0 = λ v. IsSeat played.program played.limits played.inputs v (steps v) (slice_index_or (slice_set seats t new) v seat) in
+        subst P (sym e) (subst (IsSeat played.program played.limits played.inputs t (steps t)) (sym (get_or-set_same seats t new seat l)) here)
+    go (inr n) = subst (IsSeat played.program played.limits played.inputs u (steps u)) (sym (get_or-set_other seats t u new seat n)) (there u seat n in_range)
 
 -- another state of a thread that is as good
 pub playing-same : (played : Played) (cells : List Cell) (seats : List Seat) (t : ℕ) (new : Seat) → IsPlaying played cells seats → t < length seats →
-    IsSeat played.program played.limits t (thread_steps played t) new → IsPlaying played cells (slice_set seats t new)
+    IsSeat played.program played.limits played.inputs t (thread_steps played t) new → IsPlaying played cells (slice_set seats t new)
 playing-same played cells seats t new is l here = record {
   rules = is.rules;
   legal = is.legal;
@@ -77,11 +78,11 @@ has_room played t lives = go (cases_lt (length (thread_steps played t)) played.l
   where
     go : (length (thread_steps played t) < played.limits.steps) ⊎ (played.limits.steps ≤ length (thread_steps played t)) → length (thread_steps played t) < played.limits.steps
     go (inl l) = l
-    go (inr l) = absurd (let no : true ≡ false = sym (ends_within played.program played.limits t (thread_steps played t) l) ∙ lives in cc no)
+    go (inr l) = absurd (let no : true ≡ false = sym (ends_within played.program played.limits played.inputs t (thread_steps played t) l) ∙ lives in cc no)
 
 -- the state after a step
 pub playing-step : (played : Played) (cells : List Cell) (seats : List Seat) (t : ℕ) (new : Seat) → IsPlaying played cells seats → t < length seats → has_ended (wanted_by played t) ≡ false →
-    IsSeat played.program played.limits t (thread_steps played t ++ next_step played t ∷ []) new →
+    IsSeat played.program played.limits played.inputs t (thread_steps played t ++ next_step played t ∷ []) new →
     IsPlaying (after_step played t)
     (put cells (word_of (wanted_by played t)) (record { thread = t; step = length (thread_steps played t) + 1 }) (wrote (wanted_by played t) (found_in cells (wanted_by played t))))
     (slice_set seats t new)
@@ -93,8 +94,8 @@ playing-step played cells seats t new is l lives here = record {
       ap (λ (w : World). w.memory) (sym (world-step played t lives));
   counted = length-set seats t new ∙ is.counted;
   each = each_seat played (thread_steps (after_step played t)) seats t new l
-      (subst (λ (s : List Step). IsSeat played.program played.limits t s new) (sym (steps-step played t (let c = is.counted in omega (arith, c, l)) lives)) here)
-      (λ u seat n ul. subst (λ (s : List Step). IsSeat played.program played.limits u s (slice_index_or seats u seat)) (sym (steps-other played t u lives n)) (is.each u seat ul));
+      (subst (λ (s : List Step). IsSeat played.program played.limits played.inputs t s new) (sym (steps-step played t (let c = is.counted in omega (arith, c, l)) lives)) here)
+      (λ u seat n ul. subst (λ (s : List Step). IsSeat played.program played.limits played.inputs u s (slice_index_or seats u seat)) (sym (steps-other played t u lives n)) (is.each u seat ul));
 }
 
 -- one more thread at its start
@@ -113,13 +114,13 @@ fresh-push count seats new is here = record {
         subst P e (subst (IsFresh count) (sym at) here)
 
 -- the state before any step
-pub playing-new : (p : ProgramValue) (limits : LimitsValue) (seats : List Seat) → IsProgram p → AreFresh (length p.threads) seats → IsPlaying (unplayed p limits) (initial_cells p.words) seats
+pub playing-new : (p : ProgramValue) (limits : LimitsValue) (inputs : InputsValue) (seats : List Seat) → IsProgram p → AreFresh (length p.threads) seats → IsPlaying (unplayed p limits inputs) (initial_cells p.words) seats
 unfolding play IsLegal
-playing-new p limits seats rules fresh = record {
+playing-new p limits inputs seats rules fresh = record {
   rules = rules;
   legal = tt;
   memory = refl;
   counted = fresh.counted;
-  each = λ t seat l. subst (λ (s : List Step). IsSeat p limits t s (slice_index_or seats t seat)) (sym (opening_steps (length p.threads) t))
-      (fresh-seat p limits t (slice_index_or seats t seat) (fresh.each t seat (let c = fresh.counted in omega (arith, c, l))));
+  each = λ t seat l. subst (λ (s : List Step). IsSeat p limits inputs t s (slice_index_or seats t seat)) (sym (opening_steps (length p.threads) t))
+      (fresh-seat p limits inputs t (slice_index_or seats t seat) (fresh.each t seat (let c = fresh.counted in omega (arith, c, l))));
 }

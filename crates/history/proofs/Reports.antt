@@ -35,24 +35,24 @@ some-end (Some (want.Swap word value)) s h = absurd (cc h)
 some-end (Some (want.Cond word seen value)) s h = absurd (cc h)
 
 pub may-report : (played : Played) (cells : List Cell) (seats : List Seat) → IsPlaying played cells seats → IsOver played → (k : ℕ) (d : Seat) → k < length seats →
-    MayReport played.program played.limits (slice_index_or seats k d)
+    MayReport played.program played.limits played.inputs (slice_index_or seats k d)
 may-report played cells seats is over k d l =
-    let seat : IsSeat played.program played.limits k (thread_steps played k) (slice_index_or seats k d) = is.each k d l in
+    let seat : IsSeat played.program played.limits played.inputs k (thread_steps played k) (slice_index_or seats k d) = is.each k d l in
     let c = is.counted in
     let t = seat.thread in
-    let core = run_core-settled played.program played.limits k (thread_steps played k) (slice_index_or seats k d) seat in
+    let core = run_core-settled played.program played.limits played.inputs k (thread_steps played k) (slice_index_or seats k d) seat in
     let n = threads_count played in
     let e : has_ended (wanted_by played k) ≡ true = over k (omega (arith, n, c, l)) in
     record {
       thread = omega (arith, c, t, l);
-      ended = some-end (run_core played.program played.limits (slice_index_or seats k d)).pending (settled_pending played.program played.limits _ _)
+      ended = some-end (run_core played.program played.limits played.inputs (slice_index_or seats k d)).pending (settled_pending played.program played.limits played.inputs _ _)
           (ap (λ (s : State). has_ended (want_or (want.Ended end.Halted) s.pending)) core ∙ e);
     }
 
 pub reports-are : (played : Played) (cells : List Cell) (seats : List Seat) → IsPlaying played cells seats →
-    map (seat_report played.program played.limits) seats ≡ reports_of played.program played.limits (world_of played)
+    map (seat_report played.program played.limits played.inputs) seats ≡ reports_of played.program played.limits played.inputs (world_of played)
 reports-are played cells seats is =
-    map-range (seat_report played.program played.limits) (λ (t : ℕ). report_of (state_after played.program played.limits t (thread_steps played t))) seats 0
-    (λ k d l. ap report_of (run_core-settled played.program played.limits k (thread_steps played k) (slice_index_or seats k d) (is.each k d l)) ∙
-    ap (λ (t : ℕ). report_of (state_after played.program played.limits t (thread_steps played t))) (let e : k ≡ 0 + k = omega arith in e)) ∙
-    ap (λ (n : ℕ). map (λ (t : ℕ). report_of (state_after played.program played.limits t (thread_steps played t))) (range_with_len 0 n)) is.counted
+    map-range (seat_report played.program played.limits played.inputs) (λ (t : ℕ). report_of (state_after played.program played.limits played.inputs t (thread_steps played t))) seats 0
+    (λ k d l. ap report_of (run_core-settled played.program played.limits played.inputs k (thread_steps played k) (slice_index_or seats k d) (is.each k d l)) ∙
+    ap (λ (t : ℕ). report_of (state_after played.program played.limits played.inputs t (thread_steps played t))) (let e : k ≡ 0 + k = omega arith in e)) ∙
+    ap (λ (n : ℕ). map (λ (t : ℕ). report_of (state_after played.program played.limits played.inputs t (thread_steps played t))) (range_with_len 0 n)) is.counted

@@ -11,6 +11,7 @@ use Rattle.replay_model.proofs.Accesses.{accesses_from-push}
 use Rattle.replay_model.proofs.Sights.{log_length-read, log_length-quiet, has_seen-push}
 use Rattle.machine.specs.Programs.{ProgramValue, LimitsValue}
 use Rattle.machine.specs.Cores.{State, settled, took, want_or}
+use Rattle.machine.specs.Inputs.{InputsValue}
 use Rattle.machine.specs.Runs.{state_after, threads_of}
 use Rattle.machine.proofs.Took.{took_takes}
 use Rattle.machine.proofs.Runs.{counts_steps, after_step, settled_pending, settled_stays}
@@ -20,23 +21,23 @@ use Rattle.history.specs.Sightings.{has_pair, has_seen, new_pairs}
 use Rattle.history.specs.Playing.{run_core, IsFresh, IsSeat, Takes, Keeps}
 
 -- it comes to what its steps made of it
-pub run_core-settled : (p : ProgramValue) (limits : LimitsValue) (t : ℕ) (steps : List Step) (seat : Seat) → IsSeat p limits t steps seat →
-    run_core p limits seat ≡ state_after p limits t steps
-run_core-settled p limits t steps seat is = ap (λ (n : ℕ). settled p limits (nat_le limits.entries n) seat.core) is.entries ∙ is.core
+pub run_core-settled : (p : ProgramValue) (limits : LimitsValue) (inputs : InputsValue) (t : ℕ) (steps : List Step) (seat : Seat) → IsSeat p limits inputs t steps seat →
+    run_core p limits inputs seat ≡ state_after p limits inputs t steps
+run_core-settled p limits inputs t steps seat is = ap (λ (n : ℕ). settled p limits inputs (nat_le limits.entries n) seat.core) is.entries ∙ is.core
 
-pub ran-wants : (p : ProgramValue) (limits : LimitsValue) (t : ℕ) (steps : List Step) (seat : Seat) (wanted : Want) → IsSeat p limits t steps seat →
-    (run_core p limits seat).pending ≡ Some wanted → wanted ≡ threads_of p limits t steps
-ran-wants p limits t steps seat wanted is h =
-    ap (want_or (want.Ended end.Halted)) (sym h) ∙ ap (λ (s : State). want_or (want.Ended end.Halted) s.pending) (run_core-settled p limits t steps seat is)
+pub ran-wants : (p : ProgramValue) (limits : LimitsValue) (inputs : InputsValue) (t : ℕ) (steps : List Step) (seat : Seat) (wanted : Want) → IsSeat p limits inputs t steps seat →
+    (run_core p limits inputs seat).pending ≡ Some wanted → wanted ≡ threads_of p limits inputs t steps
+ran-wants p limits inputs t steps seat wanted is h =
+    ap (want_or (want.Ended end.Halted)) (sym h) ∙ ap (λ (s : State). want_or (want.Ended end.Halted) s.pending) (run_core-settled p limits inputs t steps seat is)
 
 -- a thread that ran is what its steps made of it
-pub ran-seat : (p : ProgramValue) (limits : LimitsValue) (t : ℕ) (steps : List Step) (old new : Seat) → IsSeat p limits t steps old →
-    new.core ≡ run_core p limits old → (run_core p limits old).thread ≡ t → new.accesses.items ≡ old.accesses.items → new.seen.keys ≡ old.seen.keys → IsSeat p limits t steps new
-ran-seat p limits t steps old new is core thread accesses seen = record {
+pub ran-seat : (p : ProgramValue) (limits : LimitsValue) (inputs : InputsValue) (t : ℕ) (steps : List Step) (old new : Seat) → IsSeat p limits inputs t steps old →
+    new.core ≡ run_core p limits inputs old → (run_core p limits inputs old).thread ≡ t → new.accesses.items ≡ old.accesses.items → new.seen.keys ≡ old.seen.keys → IsSeat p limits inputs t steps new
+ran-seat p limits inputs t steps old new is core thread accesses seen = record {
   core =
-      ap (settled p limits (is_full limits.entries steps)) core ∙
-      settled_stays p limits (is_full limits.entries steps) (run_core p limits old) (settled_pending p limits (nat_le limits.entries (length old.seen.keys)) old.core) ∙
-      run_core-settled p limits t steps old is;
+      ap (settled p limits inputs (is_full limits.entries steps)) core ∙
+      settled_stays p limits inputs (is_full limits.entries steps) (run_core p limits inputs old) (settled_pending p limits inputs (nat_le limits.entries (length old.seen.keys)) old.core) ∙
+      run_core-settled p limits inputs t steps old is;
   thread = ap (λ (s : State). s.thread) core ∙ thread;
   accesses = accesses ∙ is.accesses;
   seen = λ word tag. ap (has_pair word tag) seen ∙ is.seen word tag;
@@ -52,12 +53,12 @@ counts steps wanted (Some cell) old new same n h =
     sym (log_length-read steps (record { want = wanted; found = Some cell }) cell refl)
 
 -- a thread that took a step is what its steps and this one made of it
-pub taken-seat : (p : ProgramValue) (limits : LimitsValue) (t : ℕ) (steps : List Step) (wanted : Want) (found : Option Cell) (access : Access) (old new : Seat) →
-    IsSeat p limits t steps old → old.core ≡ state_after p limits t steps → Takes wanted found old access new →
-    IsSeat p limits t (steps ++ record { want = wanted; found = found } ∷ []) new
-taken-seat p limits t steps wanted found access old new is at takes = record {
+pub taken-seat : (p : ProgramValue) (limits : LimitsValue) (inputs : InputsValue) (t : ℕ) (steps : List Step) (wanted : Want) (found : Option Cell) (access : Access) (old new : Seat) →
+    IsSeat p limits inputs t steps old → old.core ≡ state_after p limits inputs t steps → Takes wanted found old access new →
+    IsSeat p limits inputs t (steps ++ record { want = wanted; found = found } ∷ []) new
+taken-seat p limits inputs t steps wanted found access old new is at takes = record {
   core =
-      ap (settled p limits (is_full limits.entries (steps ++ step ∷ []))) (takes.core ∙ ap (λ (s : State). took s found) at) ∙ sym (after_step p limits t steps step);
+      ap (settled p limits inputs (is_full limits.entries (steps ++ step ∷ []))) (takes.core ∙ ap (λ (s : State). took s found) at) ∙ sym (after_step p limits inputs t steps step);
   thread = ap (λ (s : State). s.thread) takes.core ∙ (took_takes old.core found).thread ∙ is.thread;
   accesses =
       takes.accesses ∙ ap (λ (a : List Access). a ++ access ∷ []) is.accesses ∙ ap (λ (a : Access). accesses_from 1 steps ++ a ∷ []) told ∙ sym (accesses_from-push 1 steps step);
@@ -70,13 +71,13 @@ taken-seat p limits t steps wanted found access old new is at takes = record {
 
     told : access ≡ access_of (1 + length steps) (record { want = wanted; found = found })
     told =
-        let n : old.core.steps + 1 ≡ 1 + length steps = (let c = ap (λ (s : State). s.steps) at in let k = counts_steps p limits t steps in omega (arith, c, k)) in
+        let n : old.core.steps + 1 ≡ 1 + length steps = (let c = ap (λ (s : State). s.steps) at in let k = counts_steps p limits inputs t steps in omega (arith, c, k)) in
         takes.told ∙ ap (λ (k : ℕ). access_of k (record { want = wanted; found = found })) n
 
 -- a thread that took no step
-pub kept-seat : (p : ProgramValue) (limits : LimitsValue) (t : ℕ) (steps : List Step) (old new : Seat) → IsSeat p limits t steps old → Keeps old new → IsSeat p limits t steps new
-kept-seat p limits t steps old new is keeps = record {
-  core = ap (settled p limits (is_full limits.entries steps)) keeps.core ∙ is.core;
+pub kept-seat : (p : ProgramValue) (limits : LimitsValue) (inputs : InputsValue) (t : ℕ) (steps : List Step) (old new : Seat) → IsSeat p limits inputs t steps old → Keeps old new → IsSeat p limits inputs t steps new
+kept-seat p limits inputs t steps old new is keeps = record {
+  core = ap (settled p limits inputs (is_full limits.entries steps)) keeps.core ∙ is.core;
   thread = ap (λ (s : State). s.thread) keeps.core ∙ is.thread;
   accesses = keeps.accesses ∙ is.accesses;
   seen = λ word tag. ap (has_pair word tag) keeps.seen ∙ is.seen word tag;
@@ -84,10 +85,10 @@ kept-seat p limits t steps old new is keeps = record {
 }
 
 -- a thread at its start has taken no step
-pub fresh-seat : (p : ProgramValue) (limits : LimitsValue) (t : ℕ) (seat : Seat) → IsFresh t seat → IsSeat p limits t [] seat
+pub fresh-seat : (p : ProgramValue) (limits : LimitsValue) (inputs : InputsValue) (t : ℕ) (seat : Seat) → IsFresh t seat → IsSeat p limits inputs t [] seat
 unfolding thread_log
-fresh-seat p limits t seat is = record {
-  core = ap (settled p limits (is_full limits.entries [])) is.core;
+fresh-seat p limits inputs t seat is = record {
+  core = ap (settled p limits inputs (is_full limits.entries [])) is.core;
   thread = ap (λ (s : State). s.thread) is.core;
   accesses = is.accesses;
   seen = λ word tag. ap (has_pair word tag) is.seen;

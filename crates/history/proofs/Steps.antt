@@ -27,27 +27,27 @@ pub record Ran (played : Played) (cells : List Cell) (seats : List Seat) (t : �
   pub bounds : AreLimits played.limits
   pub there : t < length played.program.threads
   pub at : old ≡ slice_index_or seats t old
-  pub ran : new ≡ record old { core = run_core played.program played.limits old }
+  pub ran : new ≡ record old { core = run_core played.program played.limits played.inputs old }
   pub pending : new.core.pending ≡ Some wanted
 
 module _ (played : Played) (cells : List Cell) (seats : List Seat) (t : ℕ) (old new : Seat) (wanted : Want) (r : Ran played cells seats t old new wanted) where
   pub in_seats : t < length seats
   in_seats = let c = r.is.counted in let h = r.there in omega (arith, c, h)
 
-  pub old-seat : IsSeat played.program played.limits t (thread_steps played t) old
-  old-seat = subst (IsSeat played.program played.limits t (thread_steps played t)) (sym r.at) (r.is.each t old in_seats)
+  pub old-seat : IsSeat played.program played.limits played.inputs t (thread_steps played t) old
+  old-seat = subst (IsSeat played.program played.limits played.inputs t (thread_steps played t)) (sym r.at) (r.is.each t old in_seats)
 
-  pub new-core : new.core ≡ state_after played.program played.limits t (thread_steps played t)
-  new-core = ap (λ (s : Seat). s.core) r.ran ∙ run_core-settled played.program played.limits t (thread_steps played t) old old-seat
+  pub new-core : new.core ≡ state_after played.program played.limits played.inputs t (thread_steps played t)
+  new-core = ap (λ (s : Seat). s.core) r.ran ∙ run_core-settled played.program played.limits played.inputs t (thread_steps played t) old old-seat
 
   pub new-thread : new.core.thread ≡ t
-  new-thread = ap (λ (s : State). s.thread) new-core ∙ keeps_thread played.program played.limits t (thread_steps played t)
+  new-thread = ap (λ (s : State). s.thread) new-core ∙ keeps_thread played.program played.limits played.inputs t (thread_steps played t)
 
   pub new-wanted : wanted ≡ wanted_by played t
-  new-wanted = ran-wants played.program played.limits t (thread_steps played t) old wanted old-seat (ap (λ (s : Seat). s.core.pending) (sym r.ran) ∙ r.pending)
+  new-wanted = ran-wants played.program played.limits played.inputs t (thread_steps played t) old wanted old-seat (ap (λ (s : Seat). s.core.pending) (sym r.ran) ∙ r.pending)
 
-  pub new-seat : IsSeat played.program played.limits t (thread_steps played t) new
-  new-seat = ran-seat played.program played.limits t (thread_steps played t) old new old-seat (ap (λ (s : Seat). s.core) r.ran)
+  pub new-seat : IsSeat played.program played.limits played.inputs t (thread_steps played t) new
+  new-seat = ran-seat played.program played.limits played.inputs t (thread_steps played t) old new old-seat (ap (λ (s : Seat). s.core) r.ran)
       (ap (λ (s : Seat). s.core.thread) (sym r.ran) ∙ new-thread) (ap (λ (s : Seat). s.accesses.items) r.ran) (ap (λ (s : Seat). s.seen.keys) r.ran)
 
   -- the machine goes on as it was
@@ -59,13 +59,13 @@ module _ (played : Played) (cells : List Cell) (seats : List Seat) (t : ℕ) (ol
 
   pub word_there : has_ended wanted ≡ false → word_of wanted < length cells
   word_there lives =
-      let w : word_of (wanted_by played t) < length played.program.words = stays_within played.program played.limits t (thread_steps played t) (ap has_ended (sym new-wanted) ∙ lives) in
+      let w : word_of (wanted_by played t) < length played.program.words = stays_within played.program played.limits played.inputs t (thread_steps played t) (ap has_ended (sym new-wanted) ∙ lives) in
       let n : length cells ≡ length played.program.words = ap length r.is.memory ∙ words_count played in
       let e : word_of wanted ≡ word_of (wanted_by played t) = ap word_of new-wanted in
       omega (arith, w, n, e)
 
   pub steps_are : new.core.steps ≡ length (thread_steps played t)
-  steps_are = ap (λ (s : State). s.steps) new-core ∙ counts_steps played.program played.limits t (thread_steps played t)
+  steps_are = ap (λ (s : State). s.steps) new-core ∙ counts_steps played.program played.limits played.inputs t (thread_steps played t)
 
   pub room_for : has_ended wanted ≡ false → new.core.steps < 268435455
   room_for lives =
@@ -77,7 +77,7 @@ module _ (played : Played) (cells : List Cell) (seats : List Seat) (t : ℕ) (ol
   pub kept-playing : (mid last : Seat) → mid ≡ slice_index_or (slice_set seats t new) t mid → Keeps mid last → IsPlaying played cells (slice_set (slice_set seats t new) t last)
   kept-playing mid last m keeps =
       playing-same played cells (slice_set seats t new) t last ran-playing (let k = length-set seats t new in let i = in_seats in omega (arith, k, i))
-      (kept-seat played.program played.limits t (thread_steps played t) new last new-seat (subst (λ (s : Seat). Keeps s last) (at-same mid m) keeps))
+      (kept-seat played.program played.limits played.inputs t (thread_steps played t) new last new-seat (subst (λ (s : Seat). Keeps s last) (at-same mid m) keeps))
 
   module _ (mid last : Seat) (m : mid ≡ slice_index_or (slice_set seats t new) t mid) (lives : has_ended wanted ≡ false) (found : Option Cell) (f : found ≡ found_in cells wanted)
       (access : Access) (takes : Takes wanted found mid access last) where
@@ -101,10 +101,10 @@ module _ (played : Played) (cells : List Cell) (seats : List Seat) (t : ℕ) (ol
       last = (let e : access.step ≡ length (thread_steps played t) + 1 = ap (λ (a : Access). a.step) told-is in let q = room_for lives in let s = steps_are in omega (arith, e, q, s));
     }
 
-    last-seat : IsSeat played.program played.limits t (thread_steps played t ++ next_step played t ∷ []) last
+    last-seat : IsSeat played.program played.limits played.inputs t (thread_steps played t ++ next_step played t ∷ []) last
     last-seat =
-        subst (λ (s : Step). IsSeat played.program played.limits t (thread_steps played t ++ s ∷ []) last) step-is
-        (taken-seat played.program played.limits t (thread_steps played t) wanted found access new last new-seat new-core (subst (λ (s : Seat). Takes wanted found s access last) (at-same mid m) takes))
+        subst (λ (s : Step). IsSeat played.program played.limits played.inputs t (thread_steps played t ++ s ∷ []) last) step-is
+        (taken-seat played.program played.limits played.inputs t (thread_steps played t) wanted found access new last new-seat new-core (subst (λ (s : Seat). Takes wanted found s access last) (at-same mid m) takes))
 
     -- the machine after the step
     pub took-playing : IsPlaying (after_step played t) (put cells (word_of wanted) (record { thread = t; step = access.step }) access.wrote) (slice_set (slice_set seats t new) t last)
@@ -129,7 +129,7 @@ lives_from (want.Ended e) n = absurd (n e refl)
 
 -- the facts of a run, as its calls give them
 pub ran-made : (seen played : Played) (cells : List Cell) (seats : List Seat) (place t : ℕ) (old new : Seat) (wanted : Want) → played ≡ seen → t < length seen.program.threads → place ≡ t →
-    AreLimits played.limits → IsPlaying played cells seats → old ≡ slice_index_or seats place old → (new ≡ record old { core = run_core played.program played.limits old }) × (new.core.pending ≡ Some wanted) →
+    AreLimits played.limits → IsPlaying played cells seats → old ≡ slice_index_or seats place old → (new ≡ record old { core = run_core played.program played.limits played.inputs old }) × (new.core.pending ≡ Some wanted) →
     Ran played cells seats place old new wanted
 ran-made seen played cells seats place t old new wanted view l p bounds is at ran = record {
   is = is;

@@ -134,7 +134,7 @@ rounds-last start mid n l m idle =
     let none : history_of (threads_in start) (range_with_len 0 (length start.program.threads)) (play (threads_in start) (round_turns (length start.program.threads) n) (world_of start)) ≡ [] =
     ap (λ (x : World). history_of (threads_in start) (range_with_len 0 (length start.program.threads)) x) (sym w) ∙
     ap (λ (x : Threads). history_of x (range_with_len 0 (length start.program.threads)) (world_of mid)) (sym same) ∙ idle in
-    let e = rounds_idle (threads_in start) (length start.program.threads) n (start.limits.steps - n) (world_of start) (has_only start.program start.limits) (sym (threads_count start)) none in
+    let e = rounds_idle (threads_in start) (length start.program.threads) n (start.limits.steps - n) (world_of start) (has_only start.program start.limits start.inputs) (sym (threads_count start)) none in
     m ∙ ap (λ (l : List ℕ). record start { taken = start.taken ++ l }) (sym e) ∙ ap (λ (x : ℕ). after_turns start (round_turns (length start.program.threads) x)) k
 
 pub rounds-stop : (start mid new : Played) (n : ℕ) → n ≤ start.limits.steps → mid ≡ after_turns start (round_turns (length start.program.threads) n) →
@@ -173,10 +173,10 @@ rounds-more start mid new n m h =
 pub rounds-over : (start new : Played) → new ≡ after_turns start (all_rounds start) → IsOver new
 rounds-over start new h =
     subst IsOver (sym h) (subst (λ (w : World). IsWhole (threads_in start) w) (sym (world-turns start (all_rounds start)))
-    (rounds_whole (threads_in start) start.limits.steps (length start.program.threads) (world_of start) (ends_within start.program start.limits) (sym (threads_count start))))
+    (rounds_whole (threads_in start) start.limits.steps (length start.program.threads) (world_of start) (ends_within start.program start.limits start.inputs) (sym (threads_count start))))
 
 -- from the start, all rounds are the history of the program
-pub rounds-opening : (old new : Played) → new ≡ after_turns old (all_rounds old) → old.taken ≡ [] → new.taken ≡ rounds_of old.program old.limits
+pub rounds-opening : (old new : Played) → new ≡ after_turns old (all_rounds old) → old.taken ≡ [] → new.taken ≡ rounds_of old.program old.limits old.inputs
 unfolding play
 rounds-opening old new h none =
     ap (λ (p : Played). p.taken) h ∙

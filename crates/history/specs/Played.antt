@@ -1,4 +1,4 @@
--- What a plain machine has played: a program under limits, and whose steps were taken.
+-- What a plain machine has played: a program under limits with its inputs, and whose steps were taken.
 use Rattle.std.specs.Prelude.{◌≡◌, ℕ, ◌+◌, List, [], ◌∷◌, ◌++◌, length}
 use Rattle.replay_model.specs.Histories.{World, steps_of, step_in, IsWhole, history_of}
 use Rattle.replay_model.specs.declared.Access.{Access}
@@ -6,23 +6,25 @@ use Rattle.replay_model.specs.declared.Want.{Want}
 use Rattle.replay_model.specs.Steps.{Step, access_of}
 use Rattle.replay_model.specs.Threads.{Threads}
 use Rattle.machine.specs.Programs.{ProgramValue, LimitsValue}
+use Rattle.machine.specs.Inputs.{InputsValue}
 use Rattle.machine.specs.Runs.{threads_of, world_after}
 
 pub record Played : Type 0 where
   pub program : ProgramValue
   pub limits : LimitsValue
+  pub inputs : InputsValue
   pub taken : List ℕ
 
 -- nothing was taken yet
-abbrev pub unplayed : ProgramValue → LimitsValue → Played
-unplayed p limits = record { program = p; limits = limits; taken = [] }
+abbrev pub unplayed : ProgramValue → LimitsValue → InputsValue → Played
+unplayed p limits inputs = record { program = p; limits = limits; inputs = inputs; taken = [] }
 
 abbrev pub threads_in : Played → Threads
-threads_in played = threads_of played.program played.limits
+threads_in played = threads_of played.program played.limits played.inputs
 
 -- the memory and the steps of each thread, after what was taken
 abbrev pub world_of : Played → World
-world_of played = world_after played.program played.limits played.taken
+world_of played = world_after played.program played.limits played.inputs played.taken
 
 -- the steps of one thread
 abbrev pub thread_steps : Played → ℕ → List Step

@@ -7,14 +7,15 @@ use Rattle.replay_model.specs.ThreadLogs.{thread_log, is_full}
 use Rattle.replay_model.specs.Histories.{IsLegal}
 use Rattle.machine.specs.Programs.{ProgramValue, LimitsValue, IsProgram}
 use Rattle.machine.specs.Cores.{State, Report, first_state, settled, took, end_of, report_of}
+use Rattle.machine.specs.Inputs.{InputsValue, inputs_of}
 use Rattle.machine.specs.Runs.{state_after, start_of}
 use Rattle.history.specs.declared.seat.Seat.{Seat}
 use Rattle.history.specs.Played.{Played, threads_in, world_of, thread_steps}
 use Rattle.history.specs.Sightings.{has_pair, has_seen, Sees}
 
 -- the core after it ran up to its next step or its end
-abbrev pub run_core : ProgramValue → LimitsValue → Seat → State
-run_core p limits seat = settled p limits (nat_le limits.entries (length seat.seen.keys)) seat.core
+abbrev pub run_core : ProgramValue → LimitsValue → InputsValue → Seat → State
+run_core p limits inputs seat = settled p limits (inputs_of inputs seat.core.thread) (nat_le limits.entries (length seat.seen.keys)) seat.core
 
 -- what is kept of a thread at its start
 pub record IsFresh (t : ℕ) (seat : Seat) : Type 0 where
@@ -28,8 +29,8 @@ pub record AreFresh (count : ℕ) (seats : List Seat) : Type 0 where
   pub each : (t : ℕ) (seat : Seat) → t < count → IsFresh t (slice_index_or seats t seat)
 
 -- what is kept of thread t is what these steps made of it, but for local instructions that are left
-pub record IsSeat (p : ProgramValue) (limits : LimitsValue) (t : ℕ) (steps : List Step) (seat : Seat) : Type 0 where
-  pub core : settled p limits (is_full limits.entries steps) seat.core ≡ state_after p limits t steps
+pub record IsSeat (p : ProgramValue) (limits : LimitsValue) (inputs : InputsValue) (t : ℕ) (steps : List Step) (seat : Seat) : Type 0 where
+  pub core : settled p limits (inputs_of inputs t) (is_full limits.entries steps) seat.core ≡ state_after p limits inputs t steps
   pub thread : seat.core.thread ≡ t
   pub accesses : seat.accesses.items ≡ accesses_from 1 steps
   pub seen : (word : ℕ) (tag : Tag) → has_pair word tag seat.seen.keys ≡ has_seen word tag steps
@@ -41,7 +42,8 @@ pub record IsPlaying (played : Played) (cells : List Cell) (seats : List Seat) :
   pub legal : IsLegal (threads_in played) played.taken (start_of played.program)
   pub memory : cells ≡ (world_of played).memory
   pub counted : length seats ≡ length played.program.threads
-  pub each : (t : ℕ) (seat : Seat) → t < length seats → IsSeat played.program played.limits t (thread_steps played t) (slice_index_or seats t seat)
+  pub listed : length played.inputs ≡ length played.program.threads
+  pub each : (t : ℕ) (seat : Seat) → t < length seats → IsSeat played.program played.limits played.inputs t (thread_steps played t) (slice_index_or seats t seat)
 
 -- a step that wanted this and found this was taken
 pub record Takes (want : Want) (found : Option Cell) (old : Seat) (access : Access) (new : Seat) : Type 0 where
@@ -57,10 +59,10 @@ pub record Keeps (old new : Seat) : Type 0 where
   pub seen : new.seen.keys ≡ old.seen.keys
 
 -- the thread is one of the program's, and has ended
-pub record MayReport (p : ProgramValue) (limits : LimitsValue) (seat : Seat) : Type 0 where
+pub record MayReport (p : ProgramValue) (limits : LimitsValue) (inputs : InputsValue) (seat : Seat) : Type 0 where
   pub thread : seat.core.thread < length p.threads
-  pub ended : IsSome (option_and_then end_of (run_core p limits seat).pending)
+  pub ended : IsSome (option_and_then end_of (run_core p limits inputs seat).pending)
 
 -- what it reports
-abbrev pub seat_report : ProgramValue → LimitsValue → Seat → Report
-seat_report p limits seat = report_of (run_core p limits seat)
+abbrev pub seat_report : ProgramValue → LimitsValue → InputsValue → Seat → Report
+seat_report p limits inputs seat = report_of (run_core p limits inputs seat)

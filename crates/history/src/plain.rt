@@ -10,7 +10,7 @@ ghost use Rattle.history.specs.Stepping.{IsStep};
 
 use crate::seat::Seat;
 use light_base::{Cell, Memory, Tag};
-use machine::{Access, End, Limits, Program, RunReport, Want};
+use machine::{Access, End, Inputs, Limits, Program, RunReport, Want};
 use std::alloc::Global;
 use std::marker::Model;
 
@@ -26,11 +26,13 @@ pub enum Stepped {
 /// All threads of a program on one memory, each step of them taken when it is asked for. It is the slow machine: it
 /// keeps every step.
 ///
-/// It is seen as the program, the limits and the history that was taken, which is one thread number for each step.
+/// It is seen as the program, the limits, the inputs and the history that was taken, which is one thread number for each
+/// step.
 #[derive(Drop)]
 pub struct Plain<'p> {
     program: &'p Program,
     limits: Limits,
+    inputs: &'p Inputs,
     cells: Vec<Cell>,
     seats: Vec<Seat>,
     taken: Vec<u8>,
@@ -44,9 +46,9 @@ impl<'p> Model for Plain<'p> {
 
     ghost use Rattle.history.specs.Playing.{IsPlaying};
 
-    ghost view = { λ p. record { program = p.program.now; limits = p.limits; taken = p.taken.items } };
+    ghost view = { λ p. record { program = p.program.now; limits = p.limits; inputs = p.inputs.now; taken = p.taken.items } };
 
-    ghost invariant = { λ p. IsPlaying (record { program = p.program.now; limits = p.limits; taken = p.taken.items }) p.cells.items p.seats.items };
+    ghost invariant = { λ p. IsPlaying (record { program = p.program.now; limits = p.limits; inputs = p.inputs.now; taken = p.taken.items }) p.cells.items p.seats.items };
 }
 
 // The words before any step.
@@ -80,28 +82,37 @@ fn reports(
     alloc: Global,
     program: &Program,
     limits: &Limits,
+    inputs: &Inputs,
     seats: Vec<Seat>,
 ) -> Result<Vec<RunReport>, Memory>
-    requires { All (MayReport program.now limits.now) seats.items }
-    ensures { IfOk result (λ reports. reports.items ≡ map (seat_report program.now limits.now) seats.items) }
+    requires listed { length inputs.now ≡ length program.now.threads }
+    requires ended { All (MayReport program.now limits.now inputs.now) seats.items }
+    ensures { IfOk result (λ reports. reports.items ≡ map (seat_report program.now limits.now inputs.now) seats.items) }
 {
     let mut reports = Vec::with_capacity(alloc, seats.len())?;
     for seat in seats {
-        reports.push(seat.into_report(program, limits)?)?;
+        reports.push(seat.into_report(program, limits, inputs)?)?;
     }
     Ok(reports)
 }
 
 impl<'p> Plain<'p> {
     /// The opening state: each word has its initial value, which nobody wrote, and no thread has taken a step.
-    pub fn new(alloc: Global, program: &'p Program, limits: Limits) -> Result<Plain<'p>, Memory>
-        ensures { IfOk result (λ plain. plain ≡ unplayed program.now limits) }
+    pub fn new(
+        alloc: Global,
+        program: &'p Program,
+        limits: Limits,
+        inputs: &'p Inputs,
+    ) -> Result<Plain<'p>, Memory>
+        requires { length inputs.now ≡ length program.now.threads }
+        ensures { IfOk result (λ plain. plain ≡ unplayed program.now limits inputs.now) }
     {
         let cells = opening_cells(alloc, program.words())?;
         let seats = opening_seats(alloc, program.threads_count() as u8)?;
         Ok(Plain {
             program,
             limits,
+            inputs,
             cells,
             seats,
             taken: Vec::new(alloc),
@@ -116,7 +127,7 @@ impl<'p> Plain<'p> {
         ensures err { OnErr result (self.new ≡ self.old) }
     {
         let place = usize::from(thread);
-        let want = self.seats[place].run(self.program, &self.limits)?;
+        let want = self.seats[place].run(self.program, &self.limits, self.inputs)?;
         if let Want::Ended(end) = want {
             return Ok(Stepped::Ended(end));
         }
@@ -175,7 +186,7 @@ impl<'p> Plain<'p> {
     pub fn turns(&mut self) -> Result<(), Memory>
         ensures ok { OnOk result (self.new ≡ after_turns self.old (round_turns (length self.old.program.threads) self.old.limits.steps)) }
         ensures over { OnOk result (IsOver self.new) }
-        ensures rounds { OnOk result (self.old.taken ≡ [] → self.new.taken ≡ rounds_of self.old.program self.old.limits) }
+        ensures rounds { OnOk result (self.old.taken ≡ [] → self.new.taken ≡ rounds_of self.old.program self.old.limits self.old.inputs) }
         ensures err { OnErr result (HasBegun self.old (round_turns (length self.old.program.threads) self.old.limits.steps) self.new) }
     {
         for _round in 0..self.most_steps() {
@@ -223,16 +234,17 @@ impl<'p> Plain<'p> {
     /// What each thread reports, where every thread has ended.
     pub fn into_reports(self) -> Result<Vec<RunReport>, Memory>
         requires { IsOver self }
-        ensures { IfOk result (λ reports. reports.items ≡ reports_of self.entry.program self.entry.limits (world_of self.entry)) }
+        ensures { IfOk result (λ reports. reports.items ≡ reports_of self.entry.program self.entry.limits self.entry.inputs (world_of self.entry)) }
     {
         let Plain {
             program,
             limits,
+            inputs,
             cells: _,
             seats,
             taken: _,
             alloc,
         } = self;
-        reports(alloc, program, &limits, seats)
+        reports(alloc, program, &limits, inputs, seats)
     }
 }

@@ -6,7 +6,7 @@ ghost use Rattle.machine.specs.Cores.{end_of, report_of};
 
 use crate::cells::{found_in, put, word_of, written};
 use light_base::{Cell, Event, Memory};
-use machine::{Core, Limits, Program, RunReport};
+use machine::{Core, Inputs, Limits, Program, RunReport};
 use replay_model::{Access, Want};
 use std::alloc::Global;
 use std::collections::HashSet;
@@ -43,14 +43,21 @@ impl Seat {
     }
 
     // Runs the thread up to its next memory step or its end.
-    pub(crate) fn run(&mut self, program: &Program, limits: &Limits) -> Result<Want, Memory>
-        requires { self.old.core.thread < length program.now.threads }
-        ensures ok { IfOk result (λ wanted. (self.new ≡ record self.old { core = run_core program.now limits.now self.old }) × (self.new.core.pending ≡ Some wanted)) }
+    pub(crate) fn run(
+        &mut self,
+        program: &Program,
+        limits: &Limits,
+        inputs: &Inputs,
+    ) -> Result<Want, Memory>
+        requires thread { self.old.core.thread < length program.now.threads }
+        requires listed { length inputs.now ≡ length program.now.threads }
+        ensures ok { IfOk result (λ wanted. (self.new ≡ record self.old { core = run_core program.now limits.now inputs.now self.old }) × (self.new.core.pending ≡ Some wanted)) }
         ensures err { OnErr result (self.new ≡ self.old) }
         ensures rules { AreLimits limits.now }
     {
         let full = self.seen.len() >= limits.entries() as usize;
-        self.core.go(program, limits, full)
+        let list = inputs.threads(usize::from(self.core.thread()));
+        self.core.go_with(program, limits, list, full)
     }
 
     // Adds what a step found to the pairs that were seen.
@@ -127,10 +134,16 @@ impl Seat {
     }
 
     // How the thread ended, and what it did.
-    pub(crate) fn into_report(self, program: &Program, limits: &Limits) -> Result<RunReport, Memory>
+    pub(crate) fn into_report(
+        self,
+        program: &Program,
+        limits: &Limits,
+        inputs: &Inputs,
+    ) -> Result<RunReport, Memory>
         requires thread { self.core.thread < length program.now.threads }
-        requires ended { IsSome (option_and_then end_of (run_core program.now limits.now self).pending) }
-        ensures { IfOk result (λ report. report ≡ report_of (run_core program.now limits.now self)) }
+        requires listed { length inputs.now ≡ length program.now.threads }
+        requires ended { IsSome (option_and_then end_of (run_core program.now limits.now inputs.now self).pending) }
+        ensures { IfOk result (λ report. report ≡ report_of (run_core program.now limits.now inputs.now self)) }
     {
         let Seat {
             mut core,
@@ -138,7 +151,8 @@ impl Seat {
             seen,
         } = self;
         let full = seen.len() >= limits.entries() as usize;
-        core.go(program, limits, full)?;
+        let list = inputs.threads(usize::from(core.thread()));
+        core.go_with(program, limits, list, full)?;
         Ok(core.report())
     }
 }

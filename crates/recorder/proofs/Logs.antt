@@ -1,5 +1,5 @@
 -- The logs of threads by their reports are those of their steps, and the log of a history is one that a program can hold.
-use Rattle.std.proofs.Common.{◌≡◌, ℕ, ◌+◌, ◌<◌, ◌≤◌, List, [], ◌∷◌, ◌++◌, length, refl, sym, ◌∙◌, ap, subst, arith}
+use Rattle.std.proofs.Common.{◌≡◌, ℕ, zero, suc, ◌+◌, ◌<◌, ◌≤◌, List, [], ◌∷◌, ◌++◌, length, take, refl, sym, ◌∙◌, ap, subst, arith}
 use Rattle.std.specs.Prelude.{map, All, slice_index_or}
 use Rattle.std.specs.List.{range_with_len}
 use Rattle.std.proofs.lemmas.List.{ext_get_or}
@@ -20,6 +20,7 @@ use Rattle.replay_model.proofs.RunLogs.{run_logs_from-length, run_logs-at}
 use Rattle.replay_laws.proofs.WellFormedLog.{history_formed}
 use Rattle.machine.specs.Programs.{ProgramValue, LimitsValue, IsProgram, AreLimits}
 use Rattle.machine.specs.Cores.{State, Report, pending_want, end_of, end_or_halted, report_of}
+use Rattle.machine.specs.Inputs.{InputsValue, inputs_of, AreShort}
 use Rattle.machine.specs.Runs.{state_after, threads_of, tallies_of, world_after, reports_of}
 use Rattle.machine.proofs.Runs.{stays_within, has_only, ends_within, counts_steps}
 use Rattle.machine.proofs.Keeping.{keeps_limits}
@@ -38,25 +39,26 @@ ends-alike (Cond word seen value) = refl
 ends-alike (Ended end) = refl
 
 -- the log by a thread's report is that of its steps
-log_by-report : (p : ProgramValue) (limits : LimitsValue) (t : ℕ) (steps : List Step) →
-    log_by (thread_log steps) (report_of (state_after p limits t steps)) ≡ run_log (threads_of p limits) (tallies_of p limits) t steps
-log_by-report p limits t steps =
-    let s : State = state_after p limits t steps in
-    let log : ℕ → End → ThreadLog = λ n e. record { entries = thread_log steps; steps = n; instr = s.instr; end = e } in
-    ap (λ (n : ℕ). log n (end_or_halted (end_of (pending_want s)))) (counts_steps p limits t steps) ∙ ap (log (length steps)) (ends-alike (pending_want s))
+log_by-report : (p : ProgramValue) (limits : LimitsValue) (inputs : InputsValue) (t : ℕ) (steps : List Step) →
+    log_by (inputs_of inputs t) (thread_log steps) (report_of (state_after p limits inputs t steps)) ≡ run_log (threads_of p limits inputs) (tallies_of p limits inputs) t steps
+log_by-report p limits inputs t steps =
+    let s : State = state_after p limits inputs t steps in
+    let log : ℕ → End → ThreadLog = λ n e. record { entries = thread_log steps; steps = n; instr = s.instr; end = e; taken = take s.taken (inputs_of inputs t) } in
+    ap (λ (n : ℕ). log n (end_or_halted (end_of (pending_want s)))) (counts_steps p limits inputs t steps) ∙ ap (log (length steps)) (ends-alike (pending_want s))
 
--- entries and reports that are made for each thread
-logs_by-map : (f : ℕ → List Entry) (g : ℕ → Report) (ts : List ℕ) → logs_by (map f ts) (map g ts) ≡ map (λ (t : ℕ). log_by (f t) (g t)) ts
-logs_by-map f g [] = refl
-logs_by-map f g (t ∷ ts) = ap (λ (logs : List ThreadLog). log_by (f t) (g t) ∷ logs) (logs_by-map f g ts)
+-- entries and reports that are made for each thread from number t on
+logs_by-map : (inputs : InputsValue) (f : ℕ → List Entry) (g : ℕ → Report) (t count : ℕ) →
+    logs_by inputs t (map f (range_with_len t count)) (map g (range_with_len t count)) ≡ map (λ (u : ℕ). log_by (inputs_of inputs u) (f u) (g u)) (range_with_len t count)
+logs_by-map inputs f g t zero = refl
+logs_by-map inputs f g t (suc count) = ap (λ (logs : List ThreadLog). log_by (inputs_of inputs t) (f t) (g t) ∷ logs) (logs_by-map inputs f g (t + 1) count)
 
 -- the logs of runs, made for each thread
-runs-logged : (p : ProgramValue) (limits : LimitsValue) (runs : List (List Step)) →
-    map (λ (t : ℕ). log_by (thread_log (steps_of runs t)) (report_of (state_after p limits t (steps_of runs t)))) (range_with_len 0 (length runs)) ≡ run_logs (threads_of p limits) (tallies_of p limits) runs
-runs-logged p limits runs = ext_get_or no_thread made (run_logs (threads_of p limits) (tallies_of p limits) runs) (count ∙ sym counted) each
+runs-logged : (p : ProgramValue) (limits : LimitsValue) (inputs : InputsValue) (runs : List (List Step)) →
+    map (λ (t : ℕ). log_by (inputs_of inputs t) (thread_log (steps_of runs t)) (report_of (state_after p limits inputs t (steps_of runs t)))) (range_with_len 0 (length runs)) ≡ run_logs (threads_of p limits inputs) (tallies_of p limits inputs) runs
+runs-logged p limits inputs runs = ext_get_or no_thread made (run_logs (threads_of p limits inputs) (tallies_of p limits inputs) runs) (count ∙ sym counted) each
   where
     by : ℕ → ThreadLog
-    by t = log_by (thread_log (steps_of runs t)) (report_of (state_after p limits t (steps_of runs t)))
+    by t = log_by (inputs_of inputs t) (thread_log (steps_of runs t)) (report_of (state_after p limits inputs t (steps_of runs t)))
 
     made : List ThreadLog
     made = map by (range_with_len 0 (length runs))
@@ -64,23 +66,23 @@ runs-logged p limits runs = ext_get_or no_thread made (run_logs (threads_of p li
     count : length made ≡ length runs
     count = length-map-range_with_len by 0 (length runs)
 
-    counted : length (run_logs (threads_of p limits) (tallies_of p limits) runs) ≡ length runs
-    counted = run_logs_from-length (threads_of p limits) (tallies_of p limits) 0 runs
+    counted : length (run_logs (threads_of p limits inputs) (tallies_of p limits inputs) runs) ≡ length runs
+    counted = run_logs_from-length (threads_of p limits inputs) (tallies_of p limits inputs) 0 runs
 
-    each : (i : ℕ) → i < length made → slice_index_or made i no_thread ≡ slice_index_or (run_logs (threads_of p limits) (tallies_of p limits) runs) i no_thread
+    each : (i : ℕ) → i < length made → slice_index_or made i no_thread ≡ slice_index_or (run_logs (threads_of p limits inputs) (tallies_of p limits inputs) runs) i no_thread
     each i l =
         let here : i < length runs = let n = count in omega (arith, n, l) in
-        get_or-map-range_with_len by 0 (length runs) i i no_thread here (omega arith) ∙ log_by-report p limits i (steps_of runs i) ∙
-        sym (run_logs-at (threads_of p limits) (tallies_of p limits) runs i no_thread here)
+        get_or-map-range_with_len by 0 (length runs) i i no_thread here (omega arith) ∙ log_by-report p limits inputs i (steps_of runs i) ∙
+        sym (run_logs-at (threads_of p limits inputs) (tallies_of p limits inputs) runs i no_thread here)
 
 -- the logs of the threads of a machine
 pub played-logged : (played : Played) →
-    logs_by (entries_by played (range_with_len 0 (length played.program.threads))) (reports_of played.program played.limits (world_of played)) ≡
-    run_logs (threads_in played) (tallies_of played.program played.limits) (world_of played).threads
+    logs_by played.inputs 0 (entries_by played (range_with_len 0 (length played.program.threads))) (reports_of played.program played.limits played.inputs (world_of played)) ≡
+    run_logs (threads_in played) (tallies_of played.program played.limits played.inputs) (world_of played).threads
 played-logged played =
-    logs_by-map (λ (t : ℕ). thread_log (thread_steps played t)) (λ (t : ℕ). report_of (state_after played.program played.limits t (thread_steps played t))) (range_with_len 0 (length played.program.threads)) ∙
-    ap (λ (n : ℕ). map (λ (t : ℕ). log_by (thread_log (thread_steps played t)) (report_of (state_after played.program played.limits t (thread_steps played t)))) (range_with_len 0 n)) (sym (threads_count played)) ∙
-    runs-logged played.program played.limits (world_of played).threads
+    logs_by-map played.inputs (λ (t : ℕ). thread_log (thread_steps played t)) (λ (t : ℕ). report_of (state_after played.program played.limits played.inputs t (thread_steps played t))) 0 (length played.program.threads) ∙
+    ap (λ (n : ℕ). map (λ (t : ℕ). log_by (inputs_of played.inputs t) (thread_log (thread_steps played t)) (report_of (state_after played.program played.limits played.inputs t (thread_steps played t)))) (range_with_len 0 n)) (sym (threads_count played)) ∙
+    runs-logged played.program played.limits played.inputs (world_of played).threads
 
 -- a well-formed log is one that a program can hold
 formed-fits : (log : Log) → IsWellFormed log → IsRunLog log
@@ -89,15 +91,16 @@ formed-fits log formed = record {
   threads = formed.range.threads;
   some_word = formed.range.some_word;
   words = formed.range.words;
+  taken = All-from_get_or (λ (thread : ThreadLog). length thread.taken ≤ 65536) log.threads no_thread (λ t l. (formed.threads t l).taken);
   entries = All-from_get_or (λ (thread : ThreadLog). length thread.entries ≤ 16384) log.threads no_thread (λ t l. let own = (formed.threads t l).entries in let most = formed.range.entries in omega (arith, own, most));
 }
 
 -- the log of a history is such a log
-pub history-fits : (p : ProgramValue) (limits : LimitsValue) (digest history : List ℕ) → IsProgram p → AreLimits limits → IsHistory p limits history →
-    IsRunLog (log_of (threads_of p limits) (tallies_of p limits) digest limits (world_after p limits history))
-history-fits p limits digest history rules bounds whole =
-    formed-fits (log_of (threads_of p limits) (tallies_of p limits) digest limits (world_after p limits history))
-    (history_formed (threads_of p limits) (tallies_of p limits) digest limits p.words (length p.threads) history (stays_within p limits) (has_only p limits) (ends_within p limits) (keeps_limits p limits)
+pub history-fits : (p : ProgramValue) (limits : LimitsValue) (inputs : InputsValue) (digest history : List ℕ) → IsProgram p → AreLimits limits → AreShort inputs → IsHistory p limits inputs history →
+    IsRunLog (log_of (threads_of p limits inputs) (tallies_of p limits inputs) digest limits (world_after p limits inputs history))
+history-fits p limits inputs digest history rules bounds short whole =
+    formed-fits (log_of (threads_of p limits inputs) (tallies_of p limits inputs) digest limits (world_after p limits inputs history))
+    (history_formed (threads_of p limits inputs) (tallies_of p limits inputs) digest limits p.words (length p.threads) history (stays_within p limits inputs) (has_only p limits inputs) (ends_within p limits inputs) (keeps_limits p limits inputs short)
     (record {
       some_thread = rules.some_threads;
       threads = rules.most_threads;

@@ -7,6 +7,7 @@ use Rattle.replay_model.specs.Logs.{ThreadLog, Log}
 use Rattle.replay_model.specs.RunLogs.{run_logs, last_tags}
 use Rattle.machine.specs.Programs.{ProgramValue, LimitsValue, IsProgram, AreLimits}
 use Rattle.machine.specs.Cores.{Report}
+use Rattle.machine.specs.Inputs.{InputsValue, AreShort}
 use Rattle.machine.specs.Runs.{threads_of, tallies_of, reports_of, values_of}
 use Rattle.dep_log.specs.RunLogs.{IsRunLog}
 use Rattle.history.specs.Played.{Played, world_of}
@@ -18,33 +19,34 @@ use Rattle.recorder.proofs.Logs.{played-logged, history-fits}
 -- what comes of a machine: the entries of each thread, the reports, the threads' logs, the last tags and the last values
 pub record Comes (played : Played) (all : List (List Entry)) (reports : List Report) (threads : List ThreadLog) (lasts : List Tag) (finals : List ℕ) : Type 0 where
   pub entries : all ≡ entries_by played (range_with_len 0 (length played.program.threads))
-  pub reported : reports ≡ reports_of played.program played.limits (world_of played)
-  pub logged : threads ≡ logs_by all reports
+  pub reported : reports ≡ reports_of played.program played.limits played.inputs (world_of played)
+  pub logged : threads ≡ logs_by played.inputs 0 all reports
   pub tags : lasts ≡ last_tags (world_of played).memory
   pub values : finals ≡ values_of (world_of played)
 
-module _ (played : Played) (p : ProgramValue) (limits : LimitsValue) (program : played.program ≡ p) (bounds : played.limits ≡ limits) where
-  -- the machine played this program under these limits
-  same : played ≡ record { program = p; limits = limits; taken = played.taken }
+module _ (played : Played) (p : ProgramValue) (limits : LimitsValue) (inputs : InputsValue) (program : played.program ≡ p) (bounds : played.limits ≡ limits) (lists : played.inputs ≡ inputs) where
+  -- the machine played this program under these limits with these inputs
+  same : played ≡ record { program = p; limits = limits; inputs = inputs; taken = played.taken }
   same =
-      ap (λ (q : ProgramValue). record { program = q; limits = played.limits; taken = played.taken }) program ∙
-      ap (λ (l : LimitsValue). record { program = p; limits = l; taken = played.taken }) bounds
+      ap (λ (q : ProgramValue). record { program = q; limits = played.limits; inputs = played.inputs; taken = played.taken }) program ∙
+      ap (λ (l : LimitsValue). record { program = p; limits = l; inputs = played.inputs; taken = played.taken }) bounds ∙
+      ap (λ (i : InputsValue). record { program = p; limits = limits; inputs = i; taken = played.taken }) lists
 
   module _ (all : List (List Entry)) (reports : List Report) (threads : List ThreadLog) (lasts : List Tag) (finals : List ℕ) (c : Comes played all reports threads lasts finals) where
-    logged : threads ≡ run_logs (threads_of played.program played.limits) (tallies_of played.program played.limits) (world_of played).threads
-    logged = c.logged ∙ ap (λ (all : List (List Entry)). logs_by all reports) c.entries ∙ ap (logs_by (entries_by played (range_with_len 0 (length played.program.threads)))) c.reported ∙ played-logged played
+    logged : threads ≡ run_logs (threads_of played.program played.limits played.inputs) (tallies_of played.program played.limits played.inputs) (world_of played).threads
+    logged = c.logged ∙ ap (λ (all : List (List Entry)). logs_by played.inputs 0 all reports) c.entries ∙ ap (logs_by played.inputs 0 (entries_by played (range_with_len 0 (length played.program.threads)))) c.reported ∙ played-logged played
 
     -- these parts are the record of the history
-    pub recorded-parts : record { log = record { digest = no_digest; limits = limits; threads = threads; lasts = lasts }; reports = reports; finals = finals } ≡ recorded_of p limits played.taken
+    pub recorded-parts : record { log = record { digest = no_digest; limits = limits; threads = threads; lasts = lasts }; reports = reports; finals = finals } ≡ recorded_of p limits inputs played.taken
     recorded-parts =
         let made : LimitsValue → List ThreadLog → List Tag → List Report → List ℕ → RecordedValue = λ l ts tags rs vs. record { log = record { digest = no_digest; limits = l; threads = ts; lasts = tags }; reports = rs; finals = vs } in
         ap (λ (l : LimitsValue). made l threads lasts reports finals) (sym bounds) ∙
         ap (λ (ts : List ThreadLog). made played.limits ts lasts reports finals) logged ∙
-        ap (λ (tags : List Tag). made played.limits (run_logs (threads_of played.program played.limits) (tallies_of played.program played.limits) (world_of played).threads) tags reports finals) c.tags ∙
-        ap (λ (rs : List Report). made played.limits (run_logs (threads_of played.program played.limits) (tallies_of played.program played.limits) (world_of played).threads) (last_tags (world_of played).memory) rs finals) c.reported ∙
-        ap (made played.limits (run_logs (threads_of played.program played.limits) (tallies_of played.program played.limits) (world_of played).threads) (last_tags (world_of played).memory) (reports_of played.program played.limits (world_of played))) c.values ∙
-        ap (λ (q : Played). recorded_of q.program q.limits q.taken) same
+        ap (λ (tags : List Tag). made played.limits (run_logs (threads_of played.program played.limits played.inputs) (tallies_of played.program played.limits played.inputs) (world_of played).threads) tags reports finals) c.tags ∙
+        ap (λ (rs : List Report). made played.limits (run_logs (threads_of played.program played.limits played.inputs) (tallies_of played.program played.limits played.inputs) (world_of played).threads) (last_tags (world_of played).memory) rs finals) c.reported ∙
+        ap (made played.limits (run_logs (threads_of played.program played.limits played.inputs) (tallies_of played.program played.limits played.inputs) (world_of played).threads) (last_tags (world_of played).memory) (reports_of played.program played.limits played.inputs (world_of played))) c.values ∙
+        ap (λ (q : Played). recorded_of q.program q.limits q.inputs q.taken) same
 
     -- and the log is one that a program can hold
-    pub recorded-fits : IsProgram p → AreLimits limits → IsHistory p limits played.taken → IsRunLog (record { digest = no_digest; limits = limits; threads = threads; lasts = lasts })
-    recorded-fits rules kept whole = subst IsRunLog (sym (ap (λ (r : RecordedValue). r.log) recorded-parts)) (history-fits p limits no_digest played.taken rules kept whole)
+    pub recorded-fits : IsProgram p → AreLimits limits → AreShort inputs → IsHistory p limits inputs played.taken → IsRunLog (record { digest = no_digest; limits = limits; threads = threads; lasts = lasts })
+    recorded-fits rules kept short whole = subst IsRunLog (sym (ap (λ (r : RecordedValue). r.log) recorded-parts)) (history-fits p limits inputs no_digest played.taken rules kept short whole)

@@ -5,6 +5,7 @@ use Rattle.replay_model.specs.Logs.{Log}
 use Rattle.replay_model.specs.RunLogs.{log_of}
 use Rattle.machine.specs.Programs.{ProgramValue, LimitsValue}
 use Rattle.machine.specs.Cores.{Report}
+use Rattle.machine.specs.Inputs.{InputsValue}
 use Rattle.machine.specs.Runs.{threads_of, tallies_of, world_after, reports_of, values_of}
 
 -- the log of a run, what each thread reports, and the last value of each word
@@ -18,13 +19,13 @@ abbrev pub no_digest : List ℕ
 no_digest = replicate 32 0
 
 -- what is recorded of a run that ended like this
-abbrev pub record_of : ProgramValue → LimitsValue → World → RecordedValue
-record_of p limits world = record {
-  log = log_of (threads_of p limits) (tallies_of p limits) no_digest limits world;
-  reports = reports_of p limits world;
+abbrev pub record_of : ProgramValue → LimitsValue → InputsValue → World → RecordedValue
+record_of p limits inputs world = record {
+  log = log_of (threads_of p limits inputs) (tallies_of p limits inputs) no_digest limits world;
+  reports = reports_of p limits inputs world;
   finals = values_of world;
 }
 
 -- what is recorded of a history
-abbrev pub recorded_of : ProgramValue → LimitsValue → List ℕ → RecordedValue
-recorded_of p limits history = record_of p limits (world_after p limits history)
+abbrev pub recorded_of : ProgramValue → LimitsValue → InputsValue → List ℕ → RecordedValue
+recorded_of p limits inputs history = record_of p limits inputs (world_after p limits inputs history)

@@ -12,24 +12,27 @@ use crate::thread_logs::thread_logs;
 use dep_log::RunLog;
 use history::Plain;
 use light_base::{Cell, Memory, Tag};
-use machine::{Limits, Program};
+use machine::{Inputs, Limits, Program};
 use std::alloc::Global;
 
-/// Runs a program on one thread and records its history: a step of each thread named, in that order, and then rounds in
-/// which the threads 0, 1, 2 and so on take one step each, until every thread has ended. Ended threads are passed over.
+/// Runs a program with its inputs on one thread and records its history: a step of each thread named, in that order, and
+/// then rounds in which the threads 0, 1, 2 and so on take one step each, until every thread has ended. Ended threads are
+/// passed over.
 pub fn record_turns(
     alloc: Global,
     program: &Program,
     limits: &Limits,
+    inputs: &Inputs,
     order: &[u8],
 ) -> Result<Recorded, Memory>
-    requires { All (λ thread. thread < length program.now.threads) order.now }
-    ensures { IfOk result (λ recorded. recorded ≡ recorded_of program.now limits.now (follow_of program.now limits.now order.now)) }
+    requires listed { length inputs.now ≡ length program.now.threads }
+    requires threads { All (λ thread. thread < length program.now.threads) order.now }
+    ensures { IfOk result (λ recorded. recorded ≡ recorded_of program.now limits.now inputs.now (follow_of program.now limits.now inputs.now order.now)) }
 {
-    let mut plain = Plain::new(alloc, program, *limits)?;
+    let mut plain = Plain::new(alloc, program, *limits, inputs)?;
     follow(&mut plain, order)?;
     plain.turns()?;
-    record(alloc, program, limits, plain)
+    record(alloc, program, limits, inputs, plain)
 }
 
 // Takes a turn of each thread named; ended ones are passed over.
@@ -59,12 +62,15 @@ fn record(
     alloc: Global,
     program: &Program,
     limits: &Limits,
+    inputs: &Inputs,
     plain: Plain,
 ) -> Result<Recorded, Memory>
     requires program { plain.program ≡ program.now }
     requires limits { plain.limits ≡ limits.now }
-    requires whole { IsHistory program.now limits.now plain.taken }
-    ensures { IfOk result (λ recorded. recorded ≡ recorded_of program.now limits.now plain.entry.taken) }
+    requires inputs { plain.inputs ≡ inputs.now }
+    requires listed { length inputs.now ≡ length program.now.threads }
+    requires whole { IsHistory program.now limits.now inputs.now plain.taken }
+    ensures { IfOk result (λ recorded. recorded ≡ recorded_of program.now limits.now inputs.now plain.entry.taken) }
 {
     // So no thread has more entries than a log can hold.
     prove!(limits.entries() <= 16_384);
@@ -72,7 +78,7 @@ fn record(
     let lasts = last_tags(alloc, plain.cells())?;
     let finals = plain.values()?;
     let reports = plain.into_reports()?;
-    let threads = thread_logs(alloc, all, &reports)?;
+    let threads = thread_logs(alloc, inputs, all, &reports)?;
     let log = RunLog::new([0; 32], *limits, threads, lasts);
     Ok(Recorded::new(log, reports, finals))
 }

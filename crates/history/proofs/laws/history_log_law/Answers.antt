@@ -4,9 +4,9 @@ use Rattle.history.proofs.laws.history_log_law.Goals as goal
 
 pub returns : goal.returns
 returns c = record {
-  well_formed = λ p limits digest history rules bounds whole.
-      c.log_law.ensures (threads_of p limits) (tallies_of p limits) digest limits p.words (length p.threads) history
-      (c.machine_law.ensures.within p limits) (c.machine_law.ensures.only p limits) (c.machine_law.ensures.ends p limits) (c.machine_law.ensures.keeps p limits)
+  well_formed = λ p limits inputs digest history rules bounds whole.
+      c.log_law.ensures (threads_of p limits inputs) (tallies_of p limits inputs) digest limits p.words (length p.threads) history
+      (c.machine_law.ensures.within p limits inputs) (c.machine_law.ensures.only p limits inputs) (c.machine_law.ensures.ends p limits inputs) (c.machine_law.ensures.keeps p limits inputs)
       (record {
         some_thread = rules.some_threads;
         threads = rules.most_threads;
@@ -16,15 +16,15 @@ returns c = record {
         instr = let b = bounds.instr in omega arith;
         entries = bounds.entries;
       }) whole;
-  fits = λ p limits digest history whole.
-      c.history_law.ensures.fits (threads_of p limits) (tallies_of p limits) digest limits p.words (length p.threads) history
-      (c.machine_law.ensures.within p limits) (c.machine_law.ensures.only p limits) whole;
-  respects = λ p limits digest history whole.
-      c.history_law.ensures.respects (threads_of p limits) (tallies_of p limits) digest limits p.words (length p.threads) history
-      (c.machine_law.ensures.within p limits) (c.machine_law.ensures.only p limits) whole;
-  replays = λ p limits digest history order whole respects.
-      c.history_law.ensures.replayed (threads_of p limits) (tallies_of p limits) digest limits p.words (length p.threads) history order
-      (c.machine_law.ensures.within p limits) (c.machine_law.ensures.only p limits) (c.machine_law.ensures.ends p limits) whole respects;
+  fits = λ p limits inputs digest history whole.
+      c.history_law.ensures.fits (threads_of p limits inputs) (tallies_of p limits inputs) digest limits p.words (length p.threads) history
+      (c.machine_law.ensures.within p limits inputs) (c.machine_law.ensures.only p limits inputs) whole;
+  respects = λ p limits inputs digest history whole.
+      c.history_law.ensures.respects (threads_of p limits inputs) (tallies_of p limits inputs) digest limits p.words (length p.threads) history
+      (c.machine_law.ensures.within p limits inputs) (c.machine_law.ensures.only p limits inputs) whole;
+  replays = λ p limits inputs digest history order whole respects.
+      c.history_law.ensures.replayed (threads_of p limits inputs) (tallies_of p limits inputs) digest limits p.words (length p.threads) history order
+      (c.machine_law.ensures.within p limits inputs) (c.machine_law.ensures.only p limits inputs) (c.machine_law.ensures.ends p limits inputs) whole respects;
   unique = λ p log one two order respects fits also.
       c.skip_law.ensures.unique (threads_of p log.limits) (tallies_of p log.limits) p.words log one two order
       (c.machine_law.ensures.within p log.limits) (c.machine_law.ensures.ends p log.limits) respects fits also;

@@ -8,24 +8,24 @@ use Rattle.recorder.proofs.turns.record.Goals as goal
 
 pub new-log-requires : goal.new-log-requires
 new-log-requires c =
-    recorded-fits c.args.plain c.args.program.now c.args.limits.now c.requires.program c.requires.limits _ c.in_ok-reports.reports.items c.in_ok-threads.threads.items c.in_ok-lasts.lasts.items c.in_ok-finals.finals.items
+    recorded-fits c.args.plain c.args.program.now c.args.limits.now c.args.inputs.now c.requires.program c.requires.limits c.requires.inputs _ c.in_ok-reports.reports.items c.in_ok-threads.threads.items c.in_ok-lasts.lasts.items c.in_ok-finals.finals.items
     (record {
       entries = c.in_ok-all.ensures;
       reported = c.in_ok-reports.ensures;
-      logged = c.in_ok-threads.ensures ∙ ap (logs_by _) c.deref.ensures.value;
+      logged = c.in_ok-threads.ensures ∙ ap (logs_by _ 0 _) c.deref.ensures.value;
       tags = c.in_ok-lasts.ensures ∙ ap last_tags c.cells.ensures;
       values = c.in_ok-finals.ensures;
-    }) c.threads_count.ensures.rules c.entries.ensures.rules c.requires.whole
+    }) c.threads_count.ensures.rules c.entries.ensures.rules c.short c.requires.whole
 
 pub returns : goal.returns
 returns c =
     let made : Log → RecordedValue = λ log. record { log = log; reports = c.in_ok-reports.reports.items; finals = c.in_ok-finals.finals.items } in
     c.new.ensures ∙ ap made c.new-log.ensures ∙
-    recorded-parts c.args.plain c.args.program.now c.args.limits.now c.requires.program c.requires.limits _ c.in_ok-reports.reports.items c.in_ok-threads.threads.items c.in_ok-lasts.lasts.items c.in_ok-finals.finals.items
+    recorded-parts c.args.plain c.args.program.now c.args.limits.now c.args.inputs.now c.requires.program c.requires.limits c.requires.inputs _ c.in_ok-reports.reports.items c.in_ok-threads.threads.items c.in_ok-lasts.lasts.items c.in_ok-finals.finals.items
     (record {
       entries = c.in_ok-all.ensures;
       reported = c.in_ok-reports.ensures;
-      logged = c.in_ok-threads.ensures ∙ ap (logs_by _) c.deref.ensures.value;
+      logged = c.in_ok-threads.ensures ∙ ap (logs_by _ 0 _) c.deref.ensures.value;
       tags = c.in_ok-lasts.ensures ∙ ap last_tags c.cells.ensures;
       values = c.in_ok-finals.ensures;
     })

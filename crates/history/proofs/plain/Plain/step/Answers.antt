@@ -10,30 +10,30 @@ use Rattle.history.proofs.plain.Plain.step.Goals as goal
 
 pub invariant_of-self-in-Ended : goal.invariant_of-self-in-Ended
 invariant_of-self-in-Ended c =
-    let played : Played = record { program = c.self.inside.program.now; limits = c.self.inside.limits; taken = c.self.inside.taken.items } in
+    let played : Played = record { program = c.self.inside.program.now; limits = c.self.inside.limits; inputs = c.self.inside.inputs.now; taken = c.self.inside.taken.items } in
     let r : Ran played c.self.inside.cells.items c.self.inside.seats.items c.from-place.result c.index_mut.result.now c.run.new.self c.in_ok-want.want =
     ran-made c.args.self.now played _ _ _ c.args.thread _ _ _ c.self.view_is c.requires c.from-place.ensures c.run.ensures.rules c.self.invariant c.index_mut.ensures.value c.in_ok-want.ensures.ok in
     ran-playing played c.self.inside.cells.items c.self.inside.seats.items c.from-place.result c.index_mut.result.now c.run.new.self c.in_ok-want.want r
 
 pub returns-in-Ended : goal.returns-in-Ended
 returns-in-Ended c =
-    let played : Played = record { program = c.self.inside.program.now; limits = c.self.inside.limits; taken = c.self.inside.taken.items } in
+    let played : Played = record { program = c.self.inside.program.now; limits = c.self.inside.limits; inputs = c.self.inside.inputs.now; taken = c.self.inside.taken.items } in
     let r : Ran played c.self.inside.cells.items c.self.inside.seats.items c.from-place.result c.index_mut.result.now c.run.new.self c.in_ok-want.want =
     ran-made c.args.self.now played _ _ _ c.args.thread _ _ _ c.self.view_is c.requires c.from-place.ensures c.run.ensures.rules c.self.invariant c.index_mut.ensures.value c.in_ok-want.ensures.ok in
     record { ok = is-end c.args.self.now played c.self.inside.cells.items c.self.inside.seats.items c.from-place.result c.args.thread c.index_mut.result.now c.run.new.self c.in_ok-want.want r c.self.view_is c.from-place.ensures c.in-Ended.end c.in-Ended.is; err = tt }
 
 pub invariant_of-self-in_err-reserve : goal.invariant_of-self-in_err-reserve
 invariant_of-self-in_err-reserve c =
-    let played : Played = record { program = c.self.inside.program.now; limits = c.self.inside.limits; taken = c.self.inside.taken.items } in
+    let played : Played = record { program = c.self.inside.program.now; limits = c.self.inside.limits; inputs = c.self.inside.inputs.now; taken = c.self.inside.taken.items } in
     let r : Ran played c.self.inside.cells.items c.self.inside.seats.items c.from-place.result c.index_mut.result.now c.run.new.self c.in_ok-want.want =
     ran-made c.args.self.now played _ _ _ c.args.thread _ _ _ c.self.view_is c.requires c.from-place.ensures c.run.ensures.rules c.self.invariant c.index_mut.ensures.value c.in_ok-want.ensures.ok in
-    let P : List ℕ → Type 0 = λ l. IsPlaying (record { program = c.self.inside.program.now; limits = c.self.inside.limits; taken = l }) c.self.inside.cells.items
+    let P : List ℕ → Type 0 = λ l. IsPlaying (record { program = c.self.inside.program.now; limits = c.self.inside.limits; inputs = c.self.inside.inputs.now; taken = l }) c.self.inside.cells.items
     (slice_set c.self.inside.seats.items c.from-place.result c.run.new.self) in
     subst P (sym c.reserve.ensures.items) (ran-playing played c.self.inside.cells.items c.self.inside.seats.items c.from-place.result c.index_mut.result.now c.run.new.self c.in_ok-want.want r)
 
 pub step-requires : goal.step-requires
 step-requires c =
-    let played : Played = record { program = c.self.inside.program.now; limits = c.self.inside.limits; taken = c.self.inside.taken.items } in
+    let played : Played = record { program = c.self.inside.program.now; limits = c.self.inside.limits; inputs = c.self.inside.inputs.now; taken = c.self.inside.taken.items } in
     let r : Ran played c.self.inside.cells.items c.self.inside.seats.items c.from-place.result c.index_mut.result.now c.run.new.self c.in_ok-want.want =
     ran-made c.args.self.now played _ _ _ c.args.thread _ _ _ c.self.view_is c.requires c.from-place.ensures c.run.ensures.rules c.self.invariant c.index_mut.ensures.value c.in_ok-want.ensures.ok in
     let lives : has_ended c.in_ok-want.want ≡ false = lives_from c.in_ok-want.want c.in_default.not-Ended in
@@ -52,13 +52,13 @@ step-requires c =
 
 pub invariant_of-self-in_err-access : goal.invariant_of-self-in_err-access
 invariant_of-self-in_err-access c =
-    let played : Played = record { program = c.self.inside.program.now; limits = c.self.inside.limits; taken = c.self.inside.taken.items } in
+    let played : Played = record { program = c.self.inside.program.now; limits = c.self.inside.limits; inputs = c.self.inside.inputs.now; taken = c.self.inside.taken.items } in
     let r : Ran played c.self.inside.cells.items c.self.inside.seats.items c.from-place.result c.index_mut.result.now c.run.new.self c.in_ok-want.want =
     ran-made c.args.self.now played _ _ _ c.args.thread _ _ _ c.self.view_is c.requires c.from-place.ensures c.run.ensures.rules c.self.invariant c.index_mut.ensures.value c.in_ok-want.ensures.ok in
     let back : take c.self.inside.cells.len (c.step.new.cells ++ drop (length c.step.new.cells) c.self.inside.cells.items) ≡ c.self.inside.cells.items =
     written_back c.self.inside.cells.len c.step.new.cells c.self.inside.cells.items (ap length (sym c.deref_mut.ensures.value) ∙ c.deref_mut.ensures.len)
     (ap length c.in_err-access.ensures.same ∙ c.deref_mut.ensures.len) ∙ c.in_err-access.ensures.same ∙ c.deref_mut.ensures.value in
-    let P : List ℕ → Type 0 = λ l. IsPlaying (record { program = c.self.inside.program.now; limits = c.self.inside.limits; taken = l })
+    let P : List ℕ → Type 0 = λ l. IsPlaying (record { program = c.self.inside.program.now; limits = c.self.inside.limits; inputs = c.self.inside.inputs.now; taken = l })
     (take c.self.inside.cells.len (c.step.new.cells ++ drop (length c.step.new.cells) c.self.inside.cells.items))
     (slice_set (slice_set c.self.inside.seats.items c.from-place.result c.run.new.self) c.from-place.result c.step.new.self) in
     let Q : List Cell → Type 0 = λ m. IsPlaying played m (slice_set (slice_set c.self.inside.seats.items c.from-place.result c.run.new.self) c.from-place.result c.step.new.self) in
@@ -66,7 +66,7 @@ invariant_of-self-in_err-access c =
 
 pub invariant_of-self-2 : goal.invariant_of-self-2
 invariant_of-self-2 c =
-    let played : Played = record { program = c.self.inside.program.now; limits = c.self.inside.limits; taken = c.self.inside.taken.items } in
+    let played : Played = record { program = c.self.inside.program.now; limits = c.self.inside.limits; inputs = c.self.inside.inputs.now; taken = c.self.inside.taken.items } in
     let r : Ran played c.self.inside.cells.items c.self.inside.seats.items c.from-place.result c.index_mut.result.now c.run.new.self c.in_ok-want.want =
     ran-made c.args.self.now played _ _ _ c.args.thread _ _ _ c.self.view_is c.requires c.from-place.ensures c.run.ensures.rules c.self.invariant c.index_mut.ensures.value c.in_ok-want.ensures.ok in
     let lives : has_ended c.in_ok-want.want ≡ false = lives_from c.in_ok-want.want c.in_default.not-Ended in
@@ -81,7 +81,7 @@ invariant_of-self-2 c =
 
 pub returns : goal.returns
 returns c =
-    let played : Played = record { program = c.self.inside.program.now; limits = c.self.inside.limits; taken = c.self.inside.taken.items } in
+    let played : Played = record { program = c.self.inside.program.now; limits = c.self.inside.limits; inputs = c.self.inside.inputs.now; taken = c.self.inside.taken.items } in
     let r : Ran played c.self.inside.cells.items c.self.inside.seats.items c.from-place.result c.index_mut.result.now c.run.new.self c.in_ok-want.want =
     ran-made c.args.self.now played _ _ _ c.args.thread _ _ _ c.self.view_is c.requires c.from-place.ensures c.run.ensures.rules c.self.invariant c.index_mut.ensures.value c.in_ok-want.ensures.ok in
     let lives : has_ended c.in_ok-want.want ≡ false = lives_from c.in_ok-want.want c.in_default.not-Ended in
