@@ -10,11 +10,11 @@ use Rattle.machine.proofs.Local.{run_on-entries}
 use Rattle.machine.proofs.Rests.{settled-some}
 
 -- something is pending already
-pub settled_already : (p : ProgramValue) (limits : LimitsValue) (full : Bool) (s now : State) (wanted : Want) → s ≡ now → s.pending ≡ Some wanted →
-    (now ≡ settled p limits full now) × (now.pending ≡ Some wanted)
-settled_already p limits full s now wanted same h =
-    let P : State → Type 0 = λ n. (n ≡ settled p limits full n) × (n.pending ≡ Some wanted) in
-    subst P same (sym (settled-some p limits full s wanted h), h)
+pub settled_already : (p : ProgramValue) (limits : LimitsValue) (inputs : List ℕ) (full : Bool) (s now : State) (wanted : Want) → s ≡ now → s.pending ≡ Some wanted →
+    (now ≡ settled p limits inputs full now) × (now.pending ≡ Some wanted)
+settled_already p limits inputs full s now wanted same h =
+    let P : State → Type 0 = λ n. (n ≡ settled p limits inputs full n) × (n.pending ≡ Some wanted) in
+    subst P same (sym (settled-some p limits inputs full s wanted h), h)
 
 -- the code of a thread of a program keeps the rules
 pub code_rules : (p : ProgramValue) (thread : ℕ) (code : List Instr) → IsProgram p → thread < length p.threads → code ≡ code_of p thread → IsCode code
@@ -25,13 +25,13 @@ pub limits_rules : (limits : LimitsValue) (steps instr : ℕ) → AreLimits limi
 limits_rules limits steps instr rules s i = let a = rules.steps in let b = rules.instr in record { steps = omega arith; instr = omega arith; entries = omega arith }
 
 -- the run of a core is that of its program
-pub run_on-of : (p : ProgramValue) (limits : LimitsValue) (full : Bool) (s now : State) → s ≡ now → (thread : ℕ) → thread ≡ s.thread →
+pub run_on-of : (p : ProgramValue) (limits : LimitsValue) (inputs : List ℕ) (full : Bool) (s now : State) → s ≡ now → (thread : ℕ) → thread ≡ s.thread →
     (code : List Instr) → code ≡ code_of p thread → (words : List ℕ) → words ≡ p.words → (steps instr : ℕ) → steps ≡ limits.steps → instr ≡ limits.instr →
-    run_on code (length words) (record { steps = steps; instr = instr; entries = 0 }) full s ≡ run_on (code_of p now.thread) (length p.words) limits full now
-run_on-of p limits full s now same thread t code c words w steps instr n i =
-    ap (λ (k : List Instr). run_on k (length words) (record { steps = steps; instr = instr; entries = 0 }) full s) (c ∙ ap (code_of p) t) ∙
-    ap (λ (k : List ℕ). run_on (code_of p s.thread) (length k) (record { steps = steps; instr = instr; entries = 0 }) full s) w ∙
-    ap (λ (k : ℕ). run_on (code_of p s.thread) (length p.words) (record { steps = k; instr = instr; entries = 0 }) full s) n ∙
-    ap (λ (k : ℕ). run_on (code_of p s.thread) (length p.words) (record { steps = limits.steps; instr = k; entries = 0 }) full s) i ∙
-    run_on-entries (code_of p s.thread) (length p.words) limits 0 full s ∙
-    ap (λ (k : State). run_on (code_of p k.thread) (length p.words) limits full k) same
+    run_on code (length words) (record { steps = steps; instr = instr; entries = 0 }) inputs full s ≡ run_on (code_of p now.thread) (length p.words) limits inputs full now
+run_on-of p limits inputs full s now same thread t code c words w steps instr n i =
+    ap (λ (k : List Instr). run_on k (length words) (record { steps = steps; instr = instr; entries = 0 }) inputs full s) (c ∙ ap (code_of p) t) ∙
+    ap (λ (k : List ℕ). run_on (code_of p s.thread) (length k) (record { steps = steps; instr = instr; entries = 0 }) inputs full s) w ∙
+    ap (λ (k : ℕ). run_on (code_of p s.thread) (length p.words) (record { steps = k; instr = instr; entries = 0 }) inputs full s) n ∙
+    ap (λ (k : ℕ). run_on (code_of p s.thread) (length p.words) (record { steps = limits.steps; instr = k; entries = 0 }) inputs full s) i ∙
+    run_on-entries (code_of p s.thread) (length p.words) limits inputs 0 full s ∙
+    ap (λ (k : State). run_on (code_of p k.thread) (length p.words) limits inputs full k) same

@@ -38,6 +38,7 @@ op_of-code_of_op op.Load = refl
 op_of-code_of_op op.Store = refl
 op_of-code_of_op op.Xchg = refl
 op_of-code_of_op op.Cas = refl
+op_of-code_of_op op.Input = refl
 
 -- operations whose numbers count up from k: the one at place n has the number k + n
 counted : (k n : ℕ) (ops : List Op) (x : Op) → map code_of_op ops ≡ range_with_len k (length ops) → slice_get ops n ≡ Some x → code_of_op x ≡ k + n

@@ -11,7 +11,8 @@ use Rattle.machine.specs.declared.program.Instr.{Instr}
 use Rattle.machine.specs.declared.program.Op.{Op}
 use Rattle.machine.specs.declared.program.Op.TheVariants as op
 use Rattle.machine.specs.Programs.{LimitsValue, AreLimits, IsInstr, IsCode, is_register, is_idle, uses_a, uses_b, uses_c, jumps}
-use Rattle.machine.specs.Cores.{State, IsState, HasRoom, HasRest, most_outputs, is_out, end_before, step_wanted, comes_to, computed, is_taken, output_after, registers_with, ran, instr_or_halt, waiting, waiting_or, run_local, run_on}
+use Rattle.machine.specs.Cores.{State, IsState, HasRoom, HasRest, most_outputs, is_out, is_input, end_before, step_wanted, comes_to, computed, is_taken, output_after, taken_after, registers_with, ran, instr_or_halt, waiting, waiting_or, run_local, run_on}
+use Rattle.machine.specs.Inputs.{most_inputs}
 use Rattle.machine.specs.Turns.{NamesRegisters}
 use Rattle.machine.proofs.Local.{no_end, lives}
 use Rattle.machine.proofs.Rests.{comes-taken, comes-past}
@@ -91,52 +92,60 @@ output_within op.Out s i room most =
     omega arith
 output_within _ s i room most = most
 
+-- what is taken is one of the numbers of a short list
+taken_within_list : (o : Op) (s : State) (inputs : List ℕ) → (is_input o && leb (length inputs) s.taken) ≡ false → length inputs ≤ most_inputs → s.taken ≤ most_inputs → taken_after o s ≤ most_inputs
+taken_within_list op.Input s inputs room short most = let left = leb-false (length inputs) s.taken room in omega arith
+taken_within_list _ s inputs room short most = most
+
 -- a local instruction that the code has keeps what holds of a state
-ran_state : (o : Op) (s : State) (i : Instr) (len : ℕ) → s.place < len → len ≤ 4096 → s.instr < 1073741824 → s.pending ≡ None → s.expected ≡ None →
-    (not (jumps o) || not (ltb len i.imm)) ≡ true → (is_out o && leb most_outputs (length s.output)) ≡ false → IsState s → IsState (ran o s i)
-ran_state o s i len place short instr none fresh target room state = record {
+ran_state : (inputs : List ℕ) (o : Op) (s : State) (i : Instr) (len : ℕ) → length inputs ≤ most_inputs → s.place < len → len ≤ 4096 → s.instr < 1073741824 → s.pending ≡ None → s.expected ≡ None →
+    (not (jumps o) || not (ltb len i.imm)) ≡ true → (is_out o && leb most_outputs (length s.output)) ≡ false → (is_input o && leb (length inputs) s.taken) ≡ false → IsState s → IsState (ran inputs o s i)
+ran_state inputs o s i len list place short instr none fresh target room numbers state = record {
   thread = state.thread;
-  registers = with_length s.registers i.a (computed o s i) ∙ state.registers;
+  registers = with_length s.registers i.a (computed inputs o s i) ∙ state.registers;
   place = chosen_within (is_taken o s i) i.imm (s.place + 1) 4096 (λ taken. let l = taken_within o s i len target taken in omega arith) (omega arith);
   output = output_within o s i room state.output;
   steps = state.steps;
   instr = omega arith;
+  taken = taken_within_list o s inputs numbers list state.taken;
   room = no_room s.pending _ none;
   rest = no_rest s.expected _ fresh;
 }
 
 -- a local instruction at the place of a state keeps what holds of it
-pub ran-is_state : (code : List Instr) (words : ℕ) (limits : LimitsValue) (full : Bool) (s : State) (o : Option Instr) → IsCode code → AreLimits limits → slice_get code s.place ≡ o → comes_to words limits full s o ≡ None →
-    s.pending ≡ None → s.expected ≡ None → IsState s → IsState (ran (instr_or_halt o).op s (instr_or_halt o))
-ran-is_state code words limits full s None rules bounds at h none fresh state = cc
-ran-is_state code words limits full s (Some i) rules bounds at h none fresh state =
-    let l = lives words limits full s i (no_end (end_before words limits full s i) (step_wanted i.op s i) h).0 in
+pub ran-is_state : (code : List Instr) (words : ℕ) (limits : LimitsValue) (inputs : List ℕ) (full : Bool) (s : State) (o : Option Instr) → IsCode code → AreLimits limits → length inputs ≤ most_inputs → slice_get code s.place ≡ o → comes_to words limits inputs full s o ≡ None →
+    s.pending ≡ None → s.expected ≡ None → IsState s → IsState (ran inputs (instr_or_halt o).op s (instr_or_halt o))
+ran-is_state code words limits inputs full s None rules bounds list at h none fresh state = cc
+ran-is_state code words limits inputs full s (Some i) rules bounds list at h none fresh state =
+    let l = lives words limits inputs full s i (no_end (end_before words limits inputs full s i) (step_wanted i.op s i) h).0 in
     let g = l.room in
     let b = bounds.instr in
-    ran_state i.op s i (length code) (slice_get_within code s.place i at) rules.short (omega arith) none fresh (instr_at code s.place i rules at).target l.output state
+    ran_state inputs i.op s i (length code) list (slice_get_within code s.place i at) rules.short (omega arith) none fresh (instr_at code s.place i rules at).target l.output l.numbers state
 
 -- so does stopping at an instruction
-pub waiting-is_state : (code : List Instr) (words : ℕ) (limits : LimitsValue) (full : Bool) (s : State) (o : Option Instr) (wanted : Want) → IsCode code → AreLimits limits → slice_get code s.place ≡ o →
-    comes_to words limits full s o ≡ Some wanted → s.expected ≡ None → IsState s → IsState (waiting s o wanted)
-waiting-is_state code words limits full s None wanted rules bounds at h fresh state = record {
+pub waiting-is_state : (code : List Instr) (words : ℕ) (limits : LimitsValue) (inputs : List ℕ) (full : Bool) (s : State) (o : Option Instr) (wanted : Want) → IsCode code → AreLimits limits → slice_get code s.place ≡ o →
+    comes_to words limits inputs full s o ≡ Some wanted → s.expected ≡ None → IsState s → IsState (waiting s o wanted)
+waiting-is_state code words limits inputs full s None wanted rules bounds at h fresh state = record {
   thread = state.thread;
   registers = state.registers;
   place = state.place;
   output = state.output;
   steps = state.steps;
   instr = state.instr;
-  room = λ lives. let e = comes-past words limits full s wanted h in cc;
+  taken = state.taken;
+  room = λ lives. let e = comes-past words limits inputs full s wanted h in cc;
   rest = no_rest s.expected _ fresh;
 }
-waiting-is_state code words limits full s (Some i) wanted rules bounds at h fresh state = record {
+waiting-is_state code words limits inputs full s (Some i) wanted rules bounds at h fresh state = record {
   thread = state.thread;
   registers = state.registers;
   place = state.place;
   output = state.output;
   steps = state.steps;
   instr = state.instr;
+  taken = state.taken;
   room = λ lives.
-      let t = comes-taken words limits full s i wanted h lives in
+      let t = comes-taken words limits inputs full s i wanted h lives in
       let r = t.steps in let n = t.instr in let b = bounds.steps in let m = bounds.instr in
       let l = slice_get_within code s.place i at in let k = rules.short in
       let f = names_registers (length code) i (instr_at code s.place i rules at) in
@@ -145,24 +154,24 @@ waiting-is_state code words limits full s (Some i) wanted rules bounds at h fres
 }
 
 -- either of the two does
-waiting_or-is_state : (code : List Instr) (words : ℕ) (limits : LimitsValue) (full : Bool) (s : State) (o : Option Instr) (t : Option Want) → IsCode code → AreLimits limits → slice_get code s.place ≡ o →
-    comes_to words limits full s o ≡ t → s.expected ≡ None → IsState s → (next : State) → (comes_to words limits full s o ≡ None → IsState next) → IsState (waiting_or s o t next)
-waiting_or-is_state code words limits full s o None rules bounds at h fresh state next f = f h
-waiting_or-is_state code words limits full s o (Some wanted) rules bounds at h fresh state next f = waiting-is_state code words limits full s o wanted rules bounds at h fresh state
+waiting_or-is_state : (code : List Instr) (words : ℕ) (limits : LimitsValue) (inputs : List ℕ) (full : Bool) (s : State) (o : Option Instr) (t : Option Want) → IsCode code → AreLimits limits → slice_get code s.place ≡ o →
+    comes_to words limits inputs full s o ≡ t → s.expected ≡ None → IsState s → (next : State) → (comes_to words limits inputs full s o ≡ None → IsState next) → IsState (waiting_or s o t next)
+waiting_or-is_state code words limits inputs full s o None rules bounds at h fresh state next f = f h
+waiting_or-is_state code words limits inputs full s o (Some wanted) rules bounds at h fresh state next f = waiting-is_state code words limits inputs full s o wanted rules bounds at h fresh state
 
 -- so do many local instructions
-run_local-is_state : (n : ℕ) (code : List Instr) (words : ℕ) (limits : LimitsValue) (full : Bool) (s : State) → IsCode code → AreLimits limits → s.pending ≡ None → s.expected ≡ None → IsState s →
-    IsState (run_local n code words limits full s)
+run_local-is_state : (n : ℕ) (code : List Instr) (words : ℕ) (limits : LimitsValue) (inputs : List ℕ) (full : Bool) (s : State) → IsCode code → AreLimits limits → length inputs ≤ most_inputs → s.pending ≡ None → s.expected ≡ None → IsState s →
+    IsState (run_local n code words limits inputs full s)
 unfolding run_local
-run_local-is_state zero code words limits full s rules bounds none fresh state = state
-run_local-is_state (suc n) code words limits full s rules bounds none fresh state =
+run_local-is_state zero code words limits inputs full s rules bounds list none fresh state = state
+run_local-is_state (suc n) code words limits inputs full s rules bounds list none fresh state =
     let o = slice_get code s.place in
     let i = instr_or_halt o in
-    waiting_or-is_state code words limits full s o (comes_to words limits full s o) rules bounds refl refl fresh state _
-    (λ h. run_local-is_state n code words limits full (ran i.op s i) rules bounds none fresh (ran-is_state code words limits full s o rules bounds refl h none fresh state))
+    waiting_or-is_state code words limits inputs full s o (comes_to words limits inputs full s o) rules bounds refl refl fresh state _
+    (λ h. run_local-is_state n code words limits inputs full (ran inputs i.op s i) rules bounds list none fresh (ran-is_state code words limits inputs full s o rules bounds list refl h none fresh state))
 
 -- a run from a state with nothing pending keeps what holds of a state
-pub run_on-is_state : (code : List Instr) (words : ℕ) (limits : LimitsValue) (full : Bool) (s : State) → IsCode code → AreLimits limits → s.pending ≡ None → s.expected ≡ None → IsState s →
-    IsState (run_on code words limits full s)
+pub run_on-is_state : (code : List Instr) (words : ℕ) (limits : LimitsValue) (inputs : List ℕ) (full : Bool) (s : State) → IsCode code → AreLimits limits → length inputs ≤ most_inputs → s.pending ≡ None → s.expected ≡ None → IsState s →
+    IsState (run_on code words limits inputs full s)
 unfolding run_on
-run_on-is_state code words limits full s rules bounds none fresh state = run_local-is_state _ code words limits full s rules bounds none fresh state
+run_on-is_state code words limits inputs full s rules bounds list none fresh state = run_local-is_state _ code words limits inputs full s rules bounds list none fresh state

@@ -12,7 +12,7 @@ use Rattle.machine.specs.declared.program.Instr.{Instr}
 use Rattle.machine.specs.declared.program.Op.{Op}
 use Rattle.machine.specs.declared.program.Op.TheVariants as op
 use Rattle.machine.specs.Programs.{ProgramValue, LimitsValue, code_of}
-use Rattle.machine.specs.Cores.{State, address_of, is_halt, is_memory, is_reading, is_out, most_outputs, register, end_before, step_wanted, ended_or, comes_to, ran, instr_or_halt, waiting, waiting_or, run_local, run_on, second_wanted, resumed, settled, if_none}
+use Rattle.machine.specs.Cores.{State, address_of, is_halt, is_memory, is_reading, is_out, is_input, most_outputs, register, end_before, step_wanted, ended_or, comes_to, ran, instr_or_halt, waiting, waiting_or, run_local, run_on, second_wanted, resumed, settled, if_none}
 use Rattle.machine.proofs.Local.{lives as lives_at, GoesOn, going_instr, ran-follows}
 
 -- ---- what an instruction wants
@@ -62,9 +62,9 @@ first_of_either : (e : Option End) (o : Op) (s : State) (i : Instr) (wanted : Wa
 first_of_either None o s i wanted h = (step_is o s i wanted h).first
 first_of_either (Some e) o s i wanted h = let q : want.Ended e ≡ wanted = cc in sym (ap is_conditional q)
 
-comes_first : (words : ℕ) (limits : LimitsValue) (full : Bool) (s : State) (o : Option Instr) (wanted : Want) → comes_to words limits full s o ≡ Some wanted → is_conditional wanted ≡ false
-comes_first words limits full s None wanted h = let q : want.Ended end.Halted ≡ wanted = cc in sym (ap is_conditional q)
-comes_first words limits full s (Some i) wanted h = first_of_either (end_before words limits full s i) i.op s i wanted h
+comes_first : (words : ℕ) (limits : LimitsValue) (inputs : List ℕ) (full : Bool) (s : State) (o : Option Instr) (wanted : Want) → comes_to words limits inputs full s o ≡ Some wanted → is_conditional wanted ≡ false
+comes_first words limits inputs full s None wanted h = let q : want.Ended end.Halted ≡ wanted = cc in sym (ap is_conditional q)
+comes_first words limits inputs full s (Some i) wanted h = first_of_either (end_before words limits inputs full s i) i.op s i wanted h
 
 -- a memory step that the thread may take
 pub record MayBeTaken (words : ℕ) (limits : LimitsValue) (s : State) (wanted : Want) : Type 0 where
@@ -73,19 +73,19 @@ pub record MayBeTaken (words : ℕ) (limits : LimitsValue) (s : State) (wanted :
   pub instr : s.instr < limits.instr
 
 -- where a thread comes to a memory step, it may take it
-pub comes-taken : (words : ℕ) (limits : LimitsValue) (full : Bool) (s : State) (i : Instr) (wanted : Want) →
-    comes_to words limits full s (Some i) ≡ Some wanted → has_ended wanted ≡ false → MayBeTaken words limits s wanted
-comes-taken words limits full s i wanted h lives =
-    let e = some_of (end_before words limits full s i) (step_wanted i.op s i) wanted h lives in
-    let l = lives_at words limits full s i e.0 in
+pub comes-taken : (words : ℕ) (limits : LimitsValue) (inputs : List ℕ) (full : Bool) (s : State) (i : Instr) (wanted : Want) →
+    comes_to words limits inputs full s (Some i) ≡ Some wanted → has_ended wanted ≡ false → MayBeTaken words limits s wanted
+comes-taken words limits inputs full s i wanted h lives =
+    let e = some_of (end_before words limits inputs full s i) (step_wanted i.op s i) wanted h lives in
+    let l = lives_at words limits inputs full s i e.0 in
     let step = step_is i.op s i wanted e.1 in
     let w = step.word in
     let far = leb-false _ _ (not_both (is_memory i.op) (leb words (address_of s i)) step.memory l.address) in
     record { word = omega (arith, w, far); steps = leb-false _ _ (not_both (is_memory i.op) (leb limits.steps s.steps) step.memory l.steps); instr = l.room }
 
 -- past its code a thread comes to its end
-pub comes-past : (words : ℕ) (limits : LimitsValue) (full : Bool) (s : State) (wanted : Want) → comes_to words limits full s None ≡ Some wanted → has_ended wanted ≡ true
-comes-past words limits full s wanted h = cc
+pub comes-past : (words : ℕ) (limits : LimitsValue) (inputs : List ℕ) (full : Bool) (s : State) (wanted : Want) → comes_to words limits inputs full s None ≡ Some wanted → has_ended wanted ≡ true
+comes-past words limits inputs full s wanted h = cc
 
 -- what is asked for is within the limits: a read comes only where the log is not full, and an address is bad only where no word has it
 pub record IsAsked (words : ℕ) (full : Bool) (wanted : Want) : Type 0 where
@@ -107,23 +107,24 @@ ended_asked words full e wanted h address =
     record { room = λ r. let z : reads wanted ≡ false = ap reads q in cc; address = λ a b. address a cc }
 
 -- the ends in their order, by the tests that they come from
-chain_asked : (words : ℕ) (full : Bool) (address : ℕ) (w : Option Want) (wanted : Want) (halts spent bad steps entries outputs : Bool) →
-    ended_or (cond halts (Some end.Halted) (cond spent (Some end.InstrSpent) (cond bad (Some (end.BadAddress address)) (cond steps (Some end.StepsSpent) (cond entries (Some end.EntriesFull) (cond outputs (Some end.OutputFull) None)))))) w ≡ Some wanted →
+chain_asked : (words : ℕ) (full : Bool) (address : ℕ) (w : Option Want) (wanted : Want) (halts spent bad steps entries outputs inputs : Bool) →
+    ended_or (cond halts (Some end.Halted) (cond spent (Some end.InstrSpent) (cond bad (Some (end.BadAddress address)) (cond steps (Some end.StepsSpent) (cond entries (Some end.EntriesFull) (cond outputs (Some end.OutputFull) (cond inputs (Some end.InputEmpty) None))))))) w ≡ Some wanted →
     (bad ≡ true → words ≤ address) → (entries ≡ false → w ≡ Some wanted → IsAsked words full wanted) → IsAsked words full wanted
-chain_asked words full address w wanted true spent bad steps entries outputs h far last = ended_asked words full _ wanted h (λ a e. cc)
-chain_asked words full address w wanted false true bad steps entries outputs h far last = ended_asked words full _ wanted h (λ a e. cc)
-chain_asked words full address w wanted false false true steps entries outputs h far last =
+chain_asked words full address w wanted true spent bad steps entries outputs inputs h far last = ended_asked words full _ wanted h (λ a e. cc)
+chain_asked words full address w wanted false true bad steps entries outputs inputs h far last = ended_asked words full _ wanted h (λ a e. cc)
+chain_asked words full address w wanted false false true steps entries outputs inputs h far last =
     ended_asked words full _ wanted h (λ a e. let q : address ≡ a = cc in let l = far refl in omega (arith, q, l))
-chain_asked words full address w wanted false false false true entries outputs h far last = ended_asked words full _ wanted h (λ a e. cc)
-chain_asked words full address w wanted false false false false true outputs h far last = ended_asked words full _ wanted h (λ a e. cc)
-chain_asked words full address w wanted false false false false false true h far last = ended_asked words full _ wanted h (λ a e. cc)
-chain_asked words full address w wanted false false false false false false h far last = last refl h
+chain_asked words full address w wanted false false false true entries outputs inputs h far last = ended_asked words full _ wanted h (λ a e. cc)
+chain_asked words full address w wanted false false false false true outputs inputs h far last = ended_asked words full _ wanted h (λ a e. cc)
+chain_asked words full address w wanted false false false false false true inputs h far last = ended_asked words full _ wanted h (λ a e. cc)
+chain_asked words full address w wanted false false false false false false true h far last = ended_asked words full _ wanted h (λ a e. cc)
+chain_asked words full address w wanted false false false false false false false h far last = last refl h
 
-comes_asked : (words : ℕ) (limits : LimitsValue) (full : Bool) (s : State) (o : Option Instr) (wanted : Want) → comes_to words limits full s o ≡ Some wanted → IsAsked words full wanted
-comes_asked words limits full s None wanted h = ended_asked words full _ wanted h (λ a e. cc)
-comes_asked words limits full s (Some i) wanted h =
+comes_asked : (words : ℕ) (limits : LimitsValue) (inputs : List ℕ) (full : Bool) (s : State) (o : Option Instr) (wanted : Want) → comes_to words limits inputs full s o ≡ Some wanted → IsAsked words full wanted
+comes_asked words limits inputs full s None wanted h = ended_asked words full _ wanted h (λ a e. cc)
+comes_asked words limits inputs full s (Some i) wanted h =
     chain_asked words full (address_of s i) (step_wanted i.op s i) wanted (is_halt i.op) (leb limits.instr s.instr) (is_memory i.op && leb words (address_of s i)) (is_memory i.op && leb limits.steps s.steps)
-    (is_reading i.op && full) (is_out i.op && leb most_outputs (length s.output)) h
+    (is_reading i.op && full) (is_out i.op && leb most_outputs (length s.output)) (is_input i.op && leb (length inputs) s.taken) h
     (λ b. leb-true _ _ (both_true (is_memory i.op) _ b))
     (λ f q. step_asked i.op words full s i wanted q f)
 
@@ -151,29 +152,29 @@ not_second : (s : State) (wanted : Want) → is_conditional wanted ≡ false →
 not_second s wanted first word seen value h = let q : is_conditional wanted ≡ true = ap is_conditional h in absurd cc
 
 -- stopping at an instruction settles
-waiting-settles : (words : ℕ) (limits : LimitsValue) (full : Bool) (s : State) (o : Option Instr) (wanted : Want) → comes_to words limits full s o ≡ Some wanted → Settles words limits full s (waiting s o wanted)
-waiting-settles words limits full s None wanted h =
-    record { thread = refl; steps = refl; wanted = wanted; pending = refl; step = λ lives. let e = comes-past words limits full s wanted h in cc; asked = comes_asked words limits full s None wanted h; second = not_second s wanted (comes_first words limits full s None wanted h) }
-waiting-settles words limits full s (Some i) wanted h = record {
+waiting-settles : (words : ℕ) (limits : LimitsValue) (inputs : List ℕ) (full : Bool) (s : State) (o : Option Instr) (wanted : Want) → comes_to words limits inputs full s o ≡ Some wanted → Settles words limits full s (waiting s o wanted)
+waiting-settles words limits inputs full s None wanted h =
+    record { thread = refl; steps = refl; wanted = wanted; pending = refl; step = λ lives. let e = comes-past words limits inputs full s wanted h in cc; asked = comes_asked words limits inputs full s None wanted h; second = not_second s wanted (comes_first words limits inputs full s None wanted h) }
+waiting-settles words limits inputs full s (Some i) wanted h = record {
   thread = refl;
   steps = refl;
   wanted = wanted;
   pending = refl;
-  step = λ lives. (let t = comes-taken words limits full s i wanted h lives in record { word = t.word; steps = t.steps; instr = t.instr });
-  asked = comes_asked words limits full s (Some i) wanted h;
-  second = not_second s wanted (comes_first words limits full s (Some i) wanted h);
+  step = λ lives. (let t = comes-taken words limits inputs full s i wanted h lives in record { word = t.word; steps = t.steps; instr = t.instr });
+  asked = comes_asked words limits inputs full s (Some i) wanted h;
+  second = not_second s wanted (comes_first words limits inputs full s (Some i) wanted h);
 }
 
 -- stopping does, or what follows does
-waiting_or-settles : (words : ℕ) (limits : LimitsValue) (full : Bool) (s : State) (o : Option Instr) (t : Option Want) → comes_to words limits full s o ≡ t →
-    (next : State) → (GoesOn limits s (instr_or_halt o) → Settles words limits full s next) → Settles words limits full s (waiting_or s o t next)
-waiting_or-settles words limits full s o None h next f = f (going_instr words limits full s o h)
-waiting_or-settles words limits full s o (Some wanted) h next f = waiting-settles words limits full s o wanted h
+waiting_or-settles : (words : ℕ) (limits : LimitsValue) (inputs : List ℕ) (full : Bool) (s : State) (o : Option Instr) (t : Option Want) → comes_to words limits inputs full s o ≡ t →
+    (next : State) → (GoesOn limits inputs s (instr_or_halt o) → Settles words limits full s next) → Settles words limits full s (waiting_or s o t next)
+waiting_or-settles words limits inputs full s o None h next f = f (going_instr words limits inputs full s o h)
+waiting_or-settles words limits inputs full s o (Some wanted) h next f = waiting-settles words limits inputs full s o wanted h
 
 -- what settles the state after an instruction settles the state before it
-ran-settles : (words : ℕ) (limits : LimitsValue) (full : Bool) (s : State) (i : Instr) (new : State) → Settles words limits full (ran i.op s i) new → Settles words limits full s new
-ran-settles words limits full s i new h =
-    let f = ran-follows i.op s i in
+ran-settles : (words : ℕ) (limits : LimitsValue) (inputs : List ℕ) (full : Bool) (s : State) (i : Instr) (new : State) → Settles words limits full (ran inputs i.op s i) new → Settles words limits full s new
+ran-settles words limits inputs full s i new h =
+    let f = ran-follows inputs i.op s i in
     record {
       thread = h.thread ∙ f.thread;
       steps = h.steps ∙ f.steps;
@@ -185,18 +186,18 @@ ran-settles words limits full s i new h =
     }
 
 -- enough local instructions settle
-run_local-settles : (n : ℕ) (code : List Instr) (words : ℕ) (limits : LimitsValue) (full : Bool) (s : State) → limits.instr - s.instr < n → Settles words limits full s (run_local n code words limits full s)
+run_local-settles : (n : ℕ) (code : List Instr) (words : ℕ) (limits : LimitsValue) (inputs : List ℕ) (full : Bool) (s : State) → limits.instr - s.instr < n → Settles words limits full s (run_local n code words limits inputs full s)
 unfolding run_local
-run_local-settles zero code words limits full s h = absurd (omega arith)
-run_local-settles (suc n) code words limits full s h =
-    waiting_or-settles words limits full s (slice_get code s.place) (comes_to words limits full s (slice_get code s.place)) refl _
+run_local-settles zero code words limits inputs full s h = absurd (omega arith)
+run_local-settles (suc n) code words limits inputs full s h =
+    waiting_or-settles words limits inputs full s (slice_get code s.place) (comes_to words limits inputs full s (slice_get code s.place)) refl _
     (λ g. let room = g.room in let counts = g.counts in
-    ran-settles words limits full s (instr_or_halt (slice_get code s.place)) _ (run_local-settles n code words limits full _ (omega arith)))
+    ran-settles words limits inputs full s (instr_or_halt (slice_get code s.place)) _ (run_local-settles n code words limits inputs full _ (omega arith)))
 
 -- a run settles
-pub run_on-settles : (code : List Instr) (words : ℕ) (limits : LimitsValue) (full : Bool) (s : State) → Settles words limits full s (run_on code words limits full s)
+pub run_on-settles : (code : List Instr) (words : ℕ) (limits : LimitsValue) (inputs : List ℕ) (full : Bool) (s : State) → Settles words limits full s (run_on code words limits inputs full s)
 unfolding run_on
-run_on-settles code words limits full s = run_local-settles _ code words limits full s (omega arith)
+run_on-settles code words limits inputs full s = run_local-settles _ code words limits inputs full s (omega arith)
 
 -- the second step of a compare-exchange, by the tests that it comes from
 record IsSecond (spent full : Bool) (word : ℕ) (seen : Tag) (wanted : Want) : Type 0 where
@@ -232,20 +233,20 @@ pub record IsBetween (p : ProgramValue) (limits : LimitsValue) (s : State) : Typ
   pub past : length p.threads ≤ s.thread → s.expected ≡ None
 
 -- with something pending a state is settled
-pub settled-some : (p : ProgramValue) (limits : LimitsValue) (full : Bool) (s : State) (wanted : Want) → s.pending ≡ Some wanted → settled p limits full s ≡ s
+pub settled-some : (p : ProgramValue) (limits : LimitsValue) (inputs : List ℕ) (full : Bool) (s : State) (wanted : Want) → s.pending ≡ Some wanted → settled p limits inputs full s ≡ s
 unfolding settled
-settled-some p limits full s wanted h = ap (λ o. if_none o s (resumed p limits full s s.expected)) h
+settled-some p limits inputs full s wanted h = ap (λ o. if_none o s (resumed p limits inputs full s s.expected)) h
 
 -- with nothing pending the thread goes on
-pub settled-none : (p : ProgramValue) (limits : LimitsValue) (full : Bool) (s : State) (e : Option Expected) → s.pending ≡ None → s.expected ≡ e → settled p limits full s ≡ resumed p limits full s e
+pub settled-none : (p : ProgramValue) (limits : LimitsValue) (inputs : List ℕ) (full : Bool) (s : State) (e : Option Expected) → s.pending ≡ None → s.expected ≡ e → settled p limits inputs full s ≡ resumed p limits inputs full s e
 unfolding settled
-settled-none p limits full s e h q = ap (λ o. if_none o s (resumed p limits full s s.expected)) h ∙ ap (resumed p limits full s) q
+settled-none p limits inputs full s e h q = ap (λ o. if_none o s (resumed p limits inputs full s s.expected)) h ∙ ap (resumed p limits inputs full s) q
 
-resumed-settles : (p : ProgramValue) (limits : LimitsValue) (full : Bool) (s : State) (e : Option Expected) → s.expected ≡ e → IsBetween p limits s → Settles (length p.words) limits full s (resumed p limits full s e)
-resumed-settles p limits full s None q h = run_on-settles (code_of p s.thread) (length p.words) limits full s
-resumed-settles p limits full s (Some e) q h = second-settles (length p.words) limits full s e q (h.word e q) (h.instr e q)
+resumed-settles : (p : ProgramValue) (limits : LimitsValue) (inputs : List ℕ) (full : Bool) (s : State) (e : Option Expected) → s.expected ≡ e → IsBetween p limits s → Settles (length p.words) limits full s (resumed p limits inputs full s e)
+resumed-settles p limits inputs full s None q h = run_on-settles (code_of p s.thread) (length p.words) limits inputs full s
+resumed-settles p limits inputs full s (Some e) q h = second-settles (length p.words) limits full s e q (h.word e q) (h.instr e q)
 
 -- and then it has something pending
-pub settled-settles : (p : ProgramValue) (limits : LimitsValue) (full : Bool) (s : State) → IsBetween p limits s → Settles (length p.words) limits full s (settled p limits full s)
-settled-settles p limits full s h = let P : State → Type 0 = λ n. Settles (length p.words) limits full s n in
-    subst P (sym (settled-none p limits full s s.expected h.pending refl)) (resumed-settles p limits full s s.expected refl h)
+pub settled-settles : (p : ProgramValue) (limits : LimitsValue) (inputs : List ℕ) (full : Bool) (s : State) → IsBetween p limits s → Settles (length p.words) limits full s (settled p limits inputs full s)
+settled-settles p limits inputs full s h = let P : State → Type 0 = λ n. Settles (length p.words) limits full s n in
+    subst P (sym (settled-none p limits inputs full s s.expected h.pending refl)) (resumed-settles p limits inputs full s s.expected refl h)

@@ -24,12 +24,13 @@ pub record Takes (s : State) (cell : Option Cell) (new : State) : Type 0 where
   pub thread : new.thread ≡ s.thread
   pub steps : new.steps ≡ s.steps + 1
   pub instr : new.instr ≤ s.instr + 1
+  pub taken : new.taken ≡ s.taken
   pub pending : new.pending ≡ None
   pub half : (e : Expected) → new.expected ≡ Some e → IsHalf s cell new e
 
 -- one that ends its instruction
-done_takes : (s t : State) (cell : Option Cell) → t.thread ≡ s.thread → t.steps ≡ s.steps → t.instr ≡ s.instr → Takes s cell (step_done t)
-done_takes s t cell thread steps instr = record { thread = thread; steps = ap (λ n. n + 1) steps; instr = omega arith; pending = refl; half = λ e h. absurd cc }
+done_takes : (s t : State) (cell : Option Cell) → t.thread ≡ s.thread → t.steps ≡ s.steps → t.instr ≡ s.instr → t.taken ≡ s.taken → Takes s cell (step_done t)
+done_takes s t cell thread steps instr taken = record { thread = thread; steps = ap (λ n. n + 1) steps; instr = omega arith; taken = taken; pending = refl; half = λ e h. absurd cc }
 
 -- either of two
 either_takes : (s : State) (cell : Option Cell) (b : Bool) (x y : State) → Takes s cell x → Takes s cell y → Takes s cell (cond b x y)
@@ -43,23 +44,24 @@ compared_takes s word cell h =
       thread = refl;
       steps = refl;
       instr = omega arith;
+      taken = refl;
       pending = refl;
       half = λ e q.
           let x : record { word = word; tag = cell.tag } ≡ e = cc in
           record { wanted = h ∙ ap (λ (y : Expected). want.Load y.word) x; seen = cell; was = refl; tag = ap (λ (y : Expected). y.tag) x; instr = refl };
-    }) (done_takes s (told (given s cell) 0) (Some cell) refl refl refl)
+    }) (done_takes s (told (given s cell) 0) (Some cell) refl refl refl refl)
 
 cas_found_takes : (s : State) (wanted : Want) (cell : Cell) → pending_want s ≡ wanted → Takes s (Some cell) (cas_found s wanted cell)
 cas_found_takes s (want.Load word) cell h = compared_takes s word cell h
 cas_found_takes s (want.Cond word seen value) cell h =
-    either_takes s (Some cell) (same_tag cell.tag seen) _ _ (done_takes s (told s 1) (Some cell) refl refl refl) (done_takes s (told (given s cell) 2) (Some cell) refl refl refl)
-cas_found_takes s _ cell h = done_takes s (given s cell) (Some cell) refl refl refl
+    either_takes s (Some cell) (same_tag cell.tag seen) _ _ (done_takes s (told s 1) (Some cell) refl refl refl refl) (done_takes s (told (given s cell) 2) (Some cell) refl refl refl refl)
+cas_found_takes s _ cell h = done_takes s (given s cell) (Some cell) refl refl refl refl
 
 found_takes : (s : State) (wanted : Want) (cell : Cell) → pending_want s ≡ wanted → Takes s (Some cell) (found s wanted cell)
-found_takes s wanted cell h = either_takes s (Some cell) (is_cas s.doing.op) _ _ (cas_found_takes s wanted cell h) (done_takes s (given s cell) (Some cell) refl refl refl)
+found_takes s wanted cell h = either_takes s (Some cell) (is_cas s.doing.op) _ _ (cas_found_takes s wanted cell h) (done_takes s (given s cell) (Some cell) refl refl refl refl)
 
 pub took_takes : (s : State) (cell : Option Cell) → Takes s cell (took s cell)
-took_takes s None = done_takes s s None refl refl refl
+took_takes s None = done_takes s s None refl refl refl refl
 took_takes s (Some cell) = found_takes s (pending_want s) cell refl
 
 -- no second step is left where there is no load

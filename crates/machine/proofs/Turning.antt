@@ -14,46 +14,47 @@ use Rattle.machine.specs.Turns.{Turns}
 use Rattle.machine.proofs.Local.{goes_on, run_on-more, run_on-stop, run_on-follows}
 
 -- the state that a thread goes on from
-abbrev gone : State → List ℕ → ℕ → List ℕ → State
-gone old registers place output = record old { registers = registers; place = place; output = output; instr = old.instr + 1 }
+abbrev gone : State → List ℕ → ℕ → List ℕ → ℕ → State
+gone old registers place output taken = record old { registers = registers; place = place; output = output; instr = old.instr + 1; taken = taken }
 
 -- what a turn that goes on says
-next_of : (words : ℕ) (limits : LimitsValue) (full : Bool) (i : Instr) (old : State) (t : Turn) (next : ℕ) (registers output : List ℕ) → t ≡ turn.Next next →
-    Turns words limits full i old t registers output → (comes_to words limits full old (Some i) ≡ None) × (ran i.op old i ≡ gone old registers next output)
-next_of words limits full i old t next registers output e h = let P : Turn → Type 0 = λ u. Turns words limits full i old u registers output in subst P e h
+next_of : (words : ℕ) (limits : LimitsValue) (inputs : List ℕ) (full : Bool) (i : Instr) (old : State) (t : Turn) (next : ℕ) (registers output : List ℕ) (taken : ℕ) → t ≡ turn.Next next →
+    Turns words limits inputs full i old t registers output taken → (comes_to words limits inputs full old (Some i) ≡ None) × (ran inputs i.op old i ≡ gone old registers next output taken)
+next_of words limits inputs full i old t next registers output taken e h = let P : Turn → Type 0 = λ u. Turns words limits inputs full i old u registers output taken in subst P e h
 
 -- a thread goes on only where an instruction is left to it
-pub next-room : (words : ℕ) (limits : LimitsValue) (full : Bool) (i : Instr) (old : State) (t : Turn) (next : ℕ) (registers output : List ℕ) → t ≡ turn.Next next →
-    Turns words limits full i old t registers output → old.instr < limits.instr
-next-room words limits full i old t next registers output e h = (goes_on words limits full old i (next_of words limits full i old t next registers output e h).0).room
+pub next-room : (words : ℕ) (limits : LimitsValue) (inputs : List ℕ) (full : Bool) (i : Instr) (old : State) (t : Turn) (next : ℕ) (registers output : List ℕ) (taken : ℕ) → t ≡ turn.Next next →
+    Turns words limits inputs full i old t registers output taken → old.instr < limits.instr
+next-room words limits inputs full i old t next registers output taken e h = (goes_on words limits inputs full old i (next_of words limits inputs full i old t next registers output taken e h).0).room
 
 -- the run goes on from the next place
-pub next-goes : (code : List Instr) (words : ℕ) (limits : LimitsValue) (full : Bool) (i : Instr) (old : State) (t : Turn) (next : ℕ) (registers output : List ℕ) → slice_get code old.place ≡ Some i →
-    t ≡ turn.Next next → Turns words limits full i old t registers output → run_on code words limits full old ≡ run_on code words limits full (gone old registers next output)
-next-goes code words limits full i old t next registers output at e h =
-    let n = next_of words limits full i old t next registers output e h in
-    run_on-more code words limits full old i at n.0 ∙ ap (λ (s : State). run_on code words limits full s) n.1
+pub next-goes : (code : List Instr) (words : ℕ) (limits : LimitsValue) (inputs : List ℕ) (full : Bool) (i : Instr) (old : State) (t : Turn) (next : ℕ) (registers output : List ℕ) (taken : ℕ) → slice_get code old.place ≡ Some i →
+    t ≡ turn.Next next → Turns words limits inputs full i old t registers output taken → run_on code words limits inputs full old ≡ run_on code words limits inputs full (gone old registers next output taken)
+next-goes code words limits inputs full i old t next registers output taken at e h =
+    let n = next_of words limits inputs full i old t next registers output taken e h in
+    run_on-more code words limits inputs full old i at n.0 ∙ ap (λ (s : State). run_on code words limits inputs full s) n.1
 
 -- the run stops there
-pub stop-rests : (code : List Instr) (words : ℕ) (limits : LimitsValue) (full : Bool) (i : Instr) (old : State) (t : Turn) (wanted : Want) (registers output : List ℕ) → slice_get code old.place ≡ Some i →
-    t ≡ turn.Stop wanted → Turns words limits full i old t registers output →
-    run_on code words limits full old ≡ record old { registers = registers; output = output; doing = i; pending = Some wanted }
-stop-rests code words limits full i old t wanted registers output at e h =
-    let P : Turn → Type 0 = λ u. Turns words limits full i old u registers output in
-    let s : (comes_to words limits full old (Some i) ≡ Some wanted) × (registers ≡ old.registers) × (output ≡ old.output) = subst P e h in
-    run_on-stop code words limits full old (Some i) wanted at s.0 ∙
+pub stop-rests : (code : List Instr) (words : ℕ) (limits : LimitsValue) (inputs : List ℕ) (full : Bool) (i : Instr) (old : State) (t : Turn) (wanted : Want) (registers output : List ℕ) (taken : ℕ) → slice_get code old.place ≡ Some i →
+    t ≡ turn.Stop wanted → Turns words limits inputs full i old t registers output taken →
+    run_on code words limits inputs full old ≡ record old { registers = registers; output = output; taken = taken; doing = i; pending = Some wanted }
+stop-rests code words limits inputs full i old t wanted registers output taken at e h =
+    let P : Turn → Type 0 = λ u. Turns words limits inputs full i old u registers output taken in
+    let s : (comes_to words limits inputs full old (Some i) ≡ Some wanted) × (registers ≡ old.registers) × (output ≡ old.output) × (taken ≡ old.taken) = subst P e h in
+    run_on-stop code words limits inputs full old (Some i) wanted at s.0 ∙
     ap (λ (r : List ℕ). record old { registers = r; doing = i; pending = Some wanted }) (sym s.1) ∙
-    ap (λ (o : List ℕ). record old { registers = registers; output = o; doing = i; pending = Some wanted }) (sym s.2)
+    ap (λ (o : List ℕ). record old { registers = registers; output = o; doing = i; pending = Some wanted }) (sym s.2) ∙
+    ap (λ (n : ℕ). record old { registers = registers; output = output; taken = n; doing = i; pending = Some wanted }) (sym s.3)
 
 -- where a value is put out, the run puts it out
-pub out-grows : (code : List Instr) (words : ℕ) (limits : LimitsValue) (full : Bool) (i : Instr) (old : State) → slice_get code old.place ≡ Some i →
-    comes_to words limits full old (Some i) ≡ None → i.op ≡ op.Out → length old.output < length (run_on code words limits full old).output
-out-grows code words limits full i old at none out =
-    let e : run_on code words limits full old ≡ run_on code words limits full (ran op.Out old i) =
-    run_on-more code words limits full old i at none ∙ ap (λ (o : Op). run_on code words limits full (ran o old i)) out in
-    let l : length (run_on code words limits full old).output ≡ length (run_on code words limits full (ran op.Out old i)).output = ap (λ (s : State). length s.output) e in
-    let f = (run_on-follows code words limits full (ran op.Out old i)).output in
-    let p : length (ran op.Out old i).output ≡ length old.output + 1 = length_push old.output (register old i.a) in
+pub out-grows : (code : List Instr) (words : ℕ) (limits : LimitsValue) (inputs : List ℕ) (full : Bool) (i : Instr) (old : State) → slice_get code old.place ≡ Some i →
+    comes_to words limits inputs full old (Some i) ≡ None → i.op ≡ op.Out → length old.output < length (run_on code words limits inputs full old).output
+out-grows code words limits inputs full i old at none out =
+    let e : run_on code words limits inputs full old ≡ run_on code words limits inputs full (ran inputs op.Out old i) =
+    run_on-more code words limits inputs full old i at none ∙ ap (λ (o : Op). run_on code words limits inputs full (ran inputs o old i)) out in
+    let l : length (run_on code words limits inputs full old).output ≡ length (run_on code words limits inputs full (ran inputs op.Out old i)).output = ap (λ (s : State). length s.output) e in
+    let f = (run_on-follows code words limits inputs full (ran inputs op.Out old i)).output in
+    let p : length (ran inputs op.Out old i).output ≡ length old.output + 1 = length_push old.output (register old i.a) in
     omega arith
 
 -- what begins with a list is at least as long

@@ -11,9 +11,10 @@ use Rattle.machine.specs.declared.cores.Expected.{Expected}
 use Rattle.machine.specs.declared.program.Instr.{Instr}
 use Rattle.machine.specs.declared.program.Op.{Op}
 use Rattle.machine.specs.Programs.{ProgramValue, LimitsValue, code_of}
+use Rattle.machine.specs.Inputs.{most_inputs}
 use Rattle.machine.specs.declared.program.Op.TheVariants as op
 
--- what a thread is and has done: pending is the memory step or end that it has come to, doing the instruction that wants it, and expected, between the two steps of a compare-exchange, the word and the tag that its load saw
+-- what a thread is and has done: taken is how many numbers of its input list it has taken, pending is the memory step or end that it has come to, doing the instruction that wants it, and expected, between the two steps of a compare-exchange, the word and the tag that its load saw
 pub record State : Type 0 where
   pub thread : ℕ
   pub registers : List ℕ
@@ -21,6 +22,7 @@ pub record State : Type 0 where
   pub output : List ℕ
   pub steps : ℕ
   pub instr : ℕ
+  pub taken : ℕ
   pub doing : Instr
   pub expected : Option Expected
   pub pending : Option Want
@@ -41,7 +43,7 @@ halt = record { op = op.Halt; a = 0; b = 0; c = 0; imm = 0 }
 
 -- the start of a thread
 abbrev pub first_state : ℕ → State
-first_state t = record { thread = t; registers = replicate 16 0; place = 0; output = []; steps = 0; instr = 0; doing = halt; expected = None; pending = None }
+first_state t = record { thread = t; registers = replicate 16 0; place = 0; output = []; steps = 0; instr = 0; taken = 0; doing = halt; expected = None; pending = None }
 
 abbrev pub register : State → ℕ → ℕ
 register s r = slice_index s.registers r
@@ -73,19 +75,24 @@ abbrev pub is_out : Op → Bool
 is_out op.Out = true
 is_out _ = false
 
+abbrev pub is_input : Op → Bool
+is_input op.Input = true
+is_input _ = false
+
 abbrev pub is_cas : Op → Bool
 is_cas op.Cas = true
 is_cas _ = false
 
--- the end that comes before this instruction, if one does: the ends are looked at in this order; full says that the thread's log has as many entries as it may have
-abbrev pub end_before : ℕ → LimitsValue → Bool → State → Instr → Option End
-end_before words limits full s i =
+-- the end that comes before this instruction, if one does: the ends are looked at in this order; inputs is the thread's input list, and full says that its log has as many entries as it may have
+abbrev pub end_before : ℕ → LimitsValue → List ℕ → Bool → State → Instr → Option End
+end_before words limits inputs full s i =
     if is_halt i.op then Some end.Halted
     else if nat_le limits.instr s.instr then Some end.InstrSpent
     else if is_memory i.op && nat_le words (address_of s i) then Some (end.BadAddress (address_of s i))
     else if is_memory i.op && nat_le limits.steps s.steps then Some end.StepsSpent
     else if is_reading i.op && full then Some end.EntriesFull
     else if is_out i.op && nat_le most_outputs (length s.output) then Some end.OutputFull
+    else if is_input i.op && nat_le (length inputs) s.taken then Some end.InputEmpty
     else None
 
 -- the first memory step that an instruction wants; a local one wants none
@@ -101,24 +108,25 @@ ended_or None wanted = wanted
 ended_or (Some e) wanted = Some (want.Ended e)
 
 -- what the thread comes to at this instruction: an end, a memory step, or nothing where the instruction is local; past its code it halts
-abbrev pub comes_to : ℕ → LimitsValue → Bool → State → Option Instr → Option Want
-comes_to words limits full s None = Some (want.Ended end.Halted)
-comes_to words limits full s (Some i) = ended_or (end_before words limits full s i) (step_wanted i.op s i)
+abbrev pub comes_to : ℕ → LimitsValue → List ℕ → Bool → State → Option Instr → Option Want
+comes_to words limits inputs full s None = Some (want.Ended end.Halted)
+comes_to words limits inputs full s (Some i) = ended_or (end_before words limits inputs full s i) (step_wanted i.op s i)
 
--- the value that register a becomes, where an operation computes one
-abbrev pub computed : Op → State → Instr → Option ℕ
-computed op.Const s i = Some i.imm
-computed op.Mov s i = Some (register s i.b)
-computed op.Add s i = Some ((register s i.b + register s i.c) % 2 ^ 32)
-computed op.Sub s i = Some ((register s i.b + (2 ^ 32 - register s i.c)) % 2 ^ 32)
-computed op.Mul s i = Some ((register s i.b * register s i.c) % 2 ^ 32)
-computed op.And s i = Some (bit_and (register s i.b) (register s i.c))
-computed op.Or s i = Some (bit_or (register s i.b) (register s i.c))
-computed op.Xor s i = Some (bit_xor (register s i.b) (register s i.c))
-computed op.Shl s i = Some ((register s i.b * 2 ^ (register s i.c % 32)) % 2 ^ 32)
-computed op.Shr s i = Some (register s i.b / 2 ^ (register s i.c % 32))
-computed op.Addi s i = Some ((register s i.b + i.imm) % 2 ^ 32)
-computed _ s i = None
+-- the value that register a becomes, where an operation gives it one: `in` gives the next number of the input list
+abbrev pub computed : List ℕ → Op → State → Instr → Option ℕ
+computed inputs op.Const s i = Some i.imm
+computed inputs op.Mov s i = Some (register s i.b)
+computed inputs op.Add s i = Some ((register s i.b + register s i.c) % 2 ^ 32)
+computed inputs op.Sub s i = Some ((register s i.b + (2 ^ 32 - register s i.c)) % 2 ^ 32)
+computed inputs op.Mul s i = Some ((register s i.b * register s i.c) % 2 ^ 32)
+computed inputs op.And s i = Some (bit_and (register s i.b) (register s i.c))
+computed inputs op.Or s i = Some (bit_or (register s i.b) (register s i.c))
+computed inputs op.Xor s i = Some (bit_xor (register s i.b) (register s i.c))
+computed inputs op.Shl s i = Some ((register s i.b * 2 ^ (register s i.c % 32)) % 2 ^ 32)
+computed inputs op.Shr s i = Some (register s i.b / 2 ^ (register s i.c % 32))
+computed inputs op.Addi s i = Some ((register s i.b + i.imm) % 2 ^ 32)
+computed inputs op.Input s i = Some (slice_index inputs s.taken)
+computed inputs _ s i = None
 
 -- whether the operation is a jump that is taken
 abbrev pub is_taken : Op → State → Instr → Bool
@@ -133,18 +141,24 @@ abbrev pub output_after : Op → State → Instr → List ℕ
 output_after op.Out s i = s.output ++ register s i.a ∷ []
 output_after _ s i = s.output
 
+-- how many input numbers have been taken after the operation
+abbrev pub taken_after : Op → State → ℕ
+taken_after op.Input s = s.taken + 1
+taken_after _ s = s.taken
+
 -- the registers with a value for register r, if there is one
 abbrev pub registers_with : List ℕ → ℕ → Option ℕ → List ℕ
 registers_with registers r None = registers
 registers_with registers r (Some value) = slice_set registers r value
 
 -- what a local instruction does
-abbrev pub ran : Op → State → Instr → State
-ran o s i = record s {
-  registers = registers_with s.registers i.a (computed o s i);
+abbrev pub ran : List ℕ → Op → State → Instr → State
+ran inputs o s i = record s {
+  registers = registers_with s.registers i.a (computed inputs o s i);
   place = if is_taken o s i then i.imm else s.place + 1;
   output = output_after o s i;
   instr = s.instr + 1;
+  taken = taken_after o s;
 }
 
 abbrev pub instr_or_halt : Option Instr → Instr
@@ -161,15 +175,15 @@ waiting_or s i (Some wanted) next = waiting s i wanted
 waiting_or s i None next = next
 
 -- local instructions are run until a memory step or an end is pending, at most so many of them
-unfoldable pub run_local : ℕ → List Instr → ℕ → LimitsValue → Bool → State → State
-run_local zero code words limits full s = s
-run_local (suc n) code words limits full s =
+unfoldable pub run_local : ℕ → List Instr → ℕ → LimitsValue → List ℕ → Bool → State → State
+run_local zero code words limits inputs full s = s
+run_local (suc n) code words limits inputs full s =
     let i = slice_get code s.place in
-    waiting_or s i (comes_to words limits full s i) (run_local n code words limits full (ran (instr_or_halt i).op s (instr_or_halt i)))
+    waiting_or s i (comes_to words limits inputs full s i) (run_local n code words limits inputs full (ran inputs (instr_or_halt i).op s (instr_or_halt i)))
 
 -- each local instruction counts, so no more of them come than the limit leaves
-unfoldable pub run_on : List Instr → ℕ → LimitsValue → Bool → State → State
-run_on code words limits full s = run_local ((limits.instr - s.instr) + 1) code words limits full s
+unfoldable pub run_on : List Instr → ℕ → LimitsValue → List ℕ → Bool → State → State
+run_on code words limits inputs full s = run_local ((limits.instr - s.instr) + 1) code words limits inputs full s
 
 -- the state itself where something is pending, and else the next one
 abbrev pub if_none : Option Want → State → State → State
@@ -184,13 +198,13 @@ second_wanted limits full s e =
     else want.Cond e.word e.tag (register s s.doing.c)
 
 -- the thread goes on: within a compare-exchange to its second step, and else by its local instructions
-abbrev pub resumed : ProgramValue → LimitsValue → Bool → State → Option Expected → State
-resumed p limits full s (Some e) = record s { pending = Some (second_wanted limits full s e) }
-resumed p limits full s None = run_on (code_of p s.thread) (length p.words) limits full s
+abbrev pub resumed : ProgramValue → LimitsValue → List ℕ → Bool → State → Option Expected → State
+resumed p limits inputs full s (Some e) = record s { pending = Some (second_wanted limits full s e) }
+resumed p limits inputs full s None = run_on (code_of p s.thread) (length p.words) limits inputs full s
 
 -- the next memory step or end of the thread is pending
-unfoldable pub settled : ProgramValue → LimitsValue → Bool → State → State
-settled p limits full s = if_none s.pending s (resumed p limits full s s.expected)
+unfoldable pub settled : ProgramValue → LimitsValue → List ℕ → Bool → State → State
+settled p limits inputs full s = if_none s.pending s (resumed p limits inputs full s s.expected)
 
 -- what is pending
 abbrev pub want_or : Want → Option Want → Want
@@ -282,5 +296,6 @@ pub record IsState (s : State) : Type 0 where
   pub output : length s.output ≤ most_outputs
   pub steps : s.steps ≤ 268435455
   pub instr : s.instr ≤ 1073741824
+  pub taken : s.taken ≤ most_inputs
   pub room : HasRoom s.pending s
   pub rest : HasRest s.expected s

@@ -6,45 +6,46 @@ use Rattle.replay_model.specs.Threads.{Threads, StaysWithin, HasOnly, EndsWithin
 use Rattle.replay_model.specs.ThreadLogs.{is_full}
 use Rattle.replay_model.specs.KeptLimits.{KeepsLimits}
 use Rattle.machine.specs.Programs.{ProgramValue, LimitsValue}
+use Rattle.machine.specs.Inputs.{InputsValue, AreShort, inputs_of}
 use Rattle.machine.specs.Cores.{State, settled, took}
 use Rattle.machine.specs.Runs.{state_after, threads_of, tallies_of}
 
 -- no thread asks for a word that the program does not have
 abbrev pub StayWithinWords : Type 0
-StayWithinWords = (p : ProgramValue) (limits : LimitsValue) → StaysWithin (threads_of p limits) (length p.words)
+StayWithinWords = (p : ProgramValue) (limits : LimitsValue) (inputs : InputsValue) → StaysWithin (threads_of p limits inputs) (length p.words)
 
 -- a thread that the program does not have has ended
 abbrev pub HaveOnlyItsThreads : Type 0
-HaveOnlyItsThreads = (p : ProgramValue) (limits : LimitsValue) → HasOnly (threads_of p limits) (length p.threads)
+HaveOnlyItsThreads = (p : ProgramValue) (limits : LimitsValue) (inputs : InputsValue) → HasOnly (threads_of p limits inputs) (length p.threads)
 
 -- no thread takes more steps than the limit says
 abbrev pub EndWithinSteps : Type 0
-EndWithinSteps = (p : ProgramValue) (limits : LimitsValue) → EndsWithin (threads_of p limits) limits.steps
+EndWithinSteps = (p : ProgramValue) (limits : LimitsValue) (inputs : InputsValue) → EndsWithin (threads_of p limits inputs) limits.steps
 
 -- a state counts the steps that led to it
 abbrev pub CountSteps : Type 0
-CountSteps = (p : ProgramValue) (limits : LimitsValue) (t : ℕ) (steps : List Step) → (state_after p limits t steps).steps ≡ length steps
+CountSteps = (p : ProgramValue) (limits : LimitsValue) (inputs : InputsValue) (t : ℕ) (steps : List Step) → (state_after p limits inputs t steps).steps ≡ length steps
 
 -- a state is one of its thread
 abbrev pub KeepThread : Type 0
-KeepThread = (p : ProgramValue) (limits : LimitsValue) (t : ℕ) (steps : List Step) → (state_after p limits t steps).thread ≡ t
+KeepThread = (p : ProgramValue) (limits : LimitsValue) (inputs : InputsValue) (t : ℕ) (steps : List Step) → (state_after p limits inputs t steps).thread ≡ t
 
 -- one more step is taken from the state before it
 abbrev pub GoStepByStep : Type 0
-GoStepByStep = (p : ProgramValue) (limits : LimitsValue) (t : ℕ) (steps : List Step) (step : Step) →
-    state_after p limits t (steps ++ step ∷ []) ≡ settled p limits (is_full limits.entries (steps ++ step ∷ [])) (took (state_after p limits t steps) step.found)
+GoStepByStep = (p : ProgramValue) (limits : LimitsValue) (inputs : InputsValue) (t : ℕ) (steps : List Step) (step : Step) →
+    state_after p limits inputs t (steps ++ step ∷ []) ≡ settled p limits (inputs_of inputs t) (is_full limits.entries (steps ++ step ∷ [])) (took (state_after p limits inputs t steps) step.found)
 
 -- a settled state has something pending
 abbrev pub SettleWithPending : Type 0
-SettleWithPending = (p : ProgramValue) (limits : LimitsValue) (full : Bool) (s : State) → IsSome (settled p limits full s).pending
+SettleWithPending = (p : ProgramValue) (limits : LimitsValue) (list : List ℕ) (full : Bool) (s : State) → IsSome (settled p limits list full s).pending
 
 -- a state with something pending is settled
 abbrev pub StaySettled : Type 0
-StaySettled = (p : ProgramValue) (limits : LimitsValue) (full : Bool) (s : State) → IsSome s.pending → settled p limits full s ≡ s
+StaySettled = (p : ProgramValue) (limits : LimitsValue) (list : List ℕ) (full : Bool) (s : State) → IsSome s.pending → settled p limits list full s ≡ s
 
--- the threads keep to their limits: no run has more instructions, no read comes where the log is full, and an address is bad only where no word has it
+-- the threads keep to their limits where the input lists are short: no run has more instructions or takes more numbers, no read comes where the log is full, and an address is bad only where no word has it
 abbrev pub KeepToLimits : Type 0
-KeepToLimits = (p : ProgramValue) (limits : LimitsValue) → KeepsLimits (threads_of p limits) (tallies_of p limits) (length p.words) limits
+KeepToLimits = (p : ProgramValue) (limits : LimitsValue) (inputs : InputsValue) → AreShort inputs → KeepsLimits (threads_of p limits inputs) (tallies_of p limits inputs) (length p.words) limits
 
 -- the last of these steps of a thread was a load of this word, which found a cell with this tag
 pub record FollowsLoad (threads : Threads) (t : ℕ) (steps : List Step) (word : ℕ) (seen : Tag) : Type 0 where
@@ -58,5 +59,5 @@ pub record FollowsLoad (threads : Threads) (t : ℕ) (steps : List Step) (word :
 
 -- a thread wants a conditional write only right after a load of this very word, which found the tag that it expects
 abbrev pub CompareAfterLoads : Type 0
-CompareAfterLoads = (p : ProgramValue) (limits : LimitsValue) (t : ℕ) (steps : List Step) (word : ℕ) (seen : Tag) (value : ℕ) →
-    threads_of p limits t steps ≡ Cond word seen value → FollowsLoad (threads_of p limits) t steps word seen
+CompareAfterLoads = (p : ProgramValue) (limits : LimitsValue) (inputs : InputsValue) (t : ℕ) (steps : List Step) (word : ℕ) (seen : Tag) (value : ℕ) →
+    threads_of p limits inputs t steps ≡ Cond word seen value → FollowsLoad (threads_of p limits inputs) t steps word seen

@@ -1,4 +1,5 @@
 pub mod Programs
+pub mod Inputs
 pub mod Faults
 pub mod Images
 pub mod ImageReading

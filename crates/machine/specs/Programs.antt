@@ -43,11 +43,12 @@ code_of_op op.Load = 17
 code_of_op op.Store = 18
 code_of_op op.Xchg = 19
 code_of_op op.Cas = 20
+code_of_op op.Input = 21
 
 -- every operation, in the order of their numbers
 abbrev pub every_op : List Op
 every_op =
-    op.Halt ∷ op.Const ∷ op.Mov ∷ op.Add ∷ op.Sub ∷ op.Mul ∷ op.And ∷ op.Or ∷ op.Xor ∷ op.Shl ∷ op.Shr ∷ op.Addi ∷ op.Jmp ∷ op.Jeq ∷ op.Jne ∷ op.Jlt ∷ op.Out ∷ op.Load ∷ op.Store ∷ op.Xchg ∷ op.Cas ∷ []
+    op.Halt ∷ op.Const ∷ op.Mov ∷ op.Add ∷ op.Sub ∷ op.Mul ∷ op.And ∷ op.Or ∷ op.Xor ∷ op.Shl ∷ op.Shr ∷ op.Addi ∷ op.Jmp ∷ op.Jeq ∷ op.Jne ∷ op.Jlt ∷ op.Out ∷ op.Load ∷ op.Store ∷ op.Xchg ∷ op.Cas ∷ op.Input ∷ []
 
 -- the operation with this number, if there is one
 abbrev pub op_of : ℕ → Option Op
@@ -64,6 +65,7 @@ uses_b op.Halt = false
 uses_b op.Const = false
 uses_b op.Jmp = false
 uses_b op.Out = false
+uses_b op.Input = false
 uses_b _ = true
 
 abbrev pub uses_c : Op → Bool

@@ -13,12 +13,12 @@ abbrev pub bounds_of : Course → LimitsValue
 bounds_of c = record { steps = c.most_steps; instr = c.most_instr; entries = 0 }
 
 -- a state with these parts, and all else as in s
-abbrev pub moved : State → List ℕ → ℕ → List ℕ → ℕ → ℕ → State
-moved s registers place output steps instr = record s { registers = registers; place = place; output = output; steps = steps; instr = instr }
+abbrev pub moved : State → List ℕ → ℕ → List ℕ → ℕ → ℕ → ℕ → State
+moved s registers place output steps instr taken = record s { registers = registers; place = place; output = output; steps = steps; instr = instr; taken = taken }
 
 -- the same, stopped at a place with something pending
 abbrev pub rested : State → List ℕ → List ℕ → ℕ → Rest → State
-rested s registers output steps rest = record s { registers = registers; place = rest.place; output = output; steps = steps; instr = rest.instr; doing = rest.doing; pending = Some rest.wanted }
+rested s registers output steps rest = record s { registers = registers; place = rest.place; output = output; steps = steps; instr = rest.instr; taken = rest.taken; doing = rest.doing; pending = Some rest.wanted }
 
 -- each field is the number of a register
 pub record NamesRegisters (i : Instr) : Type 0 where
@@ -27,8 +27,8 @@ pub record NamesRegisters (i : Instr) : Type 0 where
   pub c : i.c < 16
 
 -- the thread stops at an instruction, or has run it and gone to the next place
-abbrev pub Turns : ℕ → LimitsValue → Bool → Instr → State → Turn → List ℕ → List ℕ → Type 0
-Turns words limits full i old (turn.Stop wanted) registers output =
-    (comes_to words limits full old (Some i) ≡ Some wanted) × (registers ≡ old.registers) × (output ≡ old.output)
-Turns words limits full i old (turn.Next place) registers output =
-    (comes_to words limits full old (Some i) ≡ None) × (ran i.op old i ≡ record old { registers = registers; place = place; output = output; instr = old.instr + 1 })
+abbrev pub Turns : ℕ → LimitsValue → List ℕ → Bool → Instr → State → Turn → List ℕ → List ℕ → ℕ → Type 0
+Turns words limits inputs full i old (turn.Stop wanted) registers output taken =
+    (comes_to words limits inputs full old (Some i) ≡ Some wanted) × (registers ≡ old.registers) × (output ≡ old.output) × (taken ≡ old.taken)
+Turns words limits inputs full i old (turn.Next place) registers output taken =
+    (comes_to words limits inputs full old (Some i) ≡ None) × (ran inputs i.op old i ≡ record old { registers = registers; place = place; output = output; instr = old.instr + 1; taken = taken })

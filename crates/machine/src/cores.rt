@@ -1,5 +1,5 @@
 // One thread of a program: its registers and its place, and what it wants of the memory next.
-ghost use Rattle.std.specs.Prelude.{◌≡◌, ℕ, ◌+◌, ◌<◌, ◌≤◌, true, false, if◌then◌else◌, Some, None, List, length, take, IfOk, OnErr, IsSome, IsSomeAnd, option_and_then};
+ghost use Rattle.std.specs.Prelude.{◌≡◌, ℕ, ◌+◌, ◌<◌, ◌≤◌, true, false, if◌then◌else◌, Some, None, List, [], length, take, IfOk, OnErr, IsSome, IsSomeAnd, option_and_then};
 ghost use Rattle.replay_model.specs.Steps.{reads, has_ended};
 ghost use Rattle.machine.specs.Programs.{IsCode, code_of};
 ghost use Rattle.machine.specs.Cores.{State, first_state, is_memory, comes_to, run_on, second_wanted, settled, with_register, told, compared, exchanged, cas_found, pending_want, step_done, took, end_of, report_of, is_store};
@@ -56,6 +56,7 @@ pub struct Core {
     output: Vec<u32>,
     steps: u32,
     instr: u32,
+    taken: u32,
     doing: Instr,
     expected: Option<Expected>,
     pending: Option<Want>,
@@ -66,9 +67,9 @@ impl Model for Core {
 
     ghost Value = { State };
 
-    ghost view = { λ c. record { thread = c.thread; registers = c.registers; place = c.place; output = c.output.items; steps = c.steps; instr = c.instr; doing = c.doing; expected = c.expected; pending = c.pending } };
+    ghost view = { λ c. record { thread = c.thread; registers = c.registers; place = c.place; output = c.output.items; steps = c.steps; instr = c.instr; taken = c.taken; doing = c.doing; expected = c.expected; pending = c.pending } };
 
-    ghost invariant = { λ c. IsState (record { thread = c.thread; registers = c.registers; place = c.place; output = c.output.items; steps = c.steps; instr = c.instr; doing = c.doing; expected = c.expected; pending = c.pending }) };
+    ghost invariant = { λ c. IsState (record { thread = c.thread; registers = c.registers; place = c.place; output = c.output.items; steps = c.steps; instr = c.instr; taken = c.taken; doing = c.doing; expected = c.expected; pending = c.pending }) };
 }
 
 /// What came of an instruction.
@@ -85,6 +86,7 @@ enum Turn {
 struct Rest {
     place: usize,
     instr: u32,
+    taken: u32,
     doing: Instr,
     wanted: Want,
 }
@@ -93,6 +95,7 @@ struct Rest {
 #[derive(Clone, Copy)]
 struct Course<'a> {
     code: &'a [Instr],
+    inputs: &'a [u32],
     words: usize,
     most_steps: u32,
     most_instr: u32,
@@ -114,7 +117,7 @@ impl Course<'_> {
         requires words { self.now.words ≤ 4096 }
         requires fields { NamesRegisters i.now }
         requires memory { is_memory i.now.op ≡ true }
-        ensures { (s : State) (place instr : ℕ) (output : List ℕ) → instr < self.now.most_instr → comes_to self.now.words (bounds_of self.now) self.now.full (moved s registers.now place output self.now.steps instr) (Some i.now) ≡ Some result }
+        ensures { (s : State) (place instr taken : ℕ) (output : List ℕ) → instr < self.now.most_instr → comes_to self.now.words (bounds_of self.now) self.now.inputs.now self.now.full (moved s registers.now place output self.now.steps instr taken) (Some i.now) ≡ Some result }
     {
         let address = registers[usize::from(i.b)].wrapping_add(i.imm);
         if address as usize >= self.words {
@@ -139,13 +142,15 @@ impl Course<'_> {
         place: usize,
         output: &mut Vec<u32>,
         instr: u32,
+        taken: &mut u32,
         i: &Instr,
     ) -> Result<Turn, Memory>
         requires words { self.now.words ≤ 4096 }
         requires place { place < 4096 }
+        requires inputs { length self.now.inputs.now ≤ 65536 }
         requires fields { NamesRegisters i.now }
-        ensures ok { IfOk result (λ turn. (s : State) → Turns self.now.words (bounds_of self.now) self.now.full i.now (moved s registers.old place output.old.items self.now.steps instr) turn registers.new output.new.items) }
-        ensures err { OnErr result ((s : State) → comes_to self.now.words (bounds_of self.now) self.now.full (moved s registers.old place output.old.items self.now.steps instr) (Some i.now) ≡ None) }
+        ensures ok { IfOk result (λ turn. (s : State) → Turns self.now.words (bounds_of self.now) self.now.inputs.now self.now.full i.now (moved s registers.old place output.old.items self.now.steps instr taken.old) turn registers.new output.new.items taken.new) }
+        ensures err { OnErr result ((s : State) → comes_to self.now.words (bounds_of self.now) self.now.inputs.now self.now.full (moved s registers.old place output.old.items self.now.steps instr taken.old) (Some i.now) ≡ None) }
         ensures puts { OnErr result (i.now.op ≡ Op.Out) }
         ensures kept { take (length output.old.items) output.new.items ≡ output.old.items }
     {
@@ -179,6 +184,14 @@ impl Course<'_> {
                     return Err(Memory);
                 }
             }
+            Op::Input => {
+                let at = *taken as usize;
+                if at >= self.inputs.len() {
+                    return Ok(Turn::Stop(Want::Ended(End::InputEmpty)));
+                }
+                registers[a] = self.inputs[at];
+                *taken += 1;
+            }
             Op::Load | Op::Store | Op::Xchg | Op::Cas => {
                 return Ok(Turn::Stop(self.memory_step(registers, i)));
             }
@@ -193,16 +206,18 @@ impl Course<'_> {
         mut place: usize,
         output: &mut Vec<u32>,
         mut instr: u32,
+        mut taken: u32,
     ) -> Result<Rest, Memory>
         requires words { self.now.words ≤ 4096 }
         requires code { IsCode self.now.code.now }
-        ensures ok { IfOk result (λ rest. (s : State) → run_on self.now.code.now self.now.words (bounds_of self.now) self.now.full (moved s registers.old place output.old.items self.now.steps instr) ≡ rested s registers.new output.new.items self.now.steps rest) }
-        ensures err { OnErr result ((s : State) → length output.old.items < length (run_on self.now.code.now self.now.words (bounds_of self.now) self.now.full (moved s registers.old place output.old.items self.now.steps instr)).output) }
+        requires inputs { length self.now.inputs.now ≤ 65536 }
+        ensures ok { IfOk result (λ rest. (s : State) → run_on self.now.code.now self.now.words (bounds_of self.now) self.now.inputs.now self.now.full (moved s registers.old place output.old.items self.now.steps instr taken) ≡ rested s registers.new output.new.items self.now.steps rest) }
+        ensures err { OnErr result ((s : State) → length output.old.items < length (run_on self.now.code.now self.now.words (bounds_of self.now) self.now.inputs.now self.now.full (moved s registers.old place output.old.items self.now.steps instr taken)).output) }
         ensures kept { take (length output.old.items) output.new.items ≡ output.old.items }
     {
         while place < self.code.len() {
             let i = &self.code[place];
-            match self.turn(registers, place, output, instr, i)? {
+            match self.turn(registers, place, output, instr, &mut taken, i)? {
                 Turn::Next(next) => {
                     place = next;
                     instr += 1;
@@ -211,6 +226,7 @@ impl Course<'_> {
                     return Ok(Rest {
                         place,
                         instr,
+                        taken,
                         doing: *i,
                         wanted,
                     });
@@ -220,6 +236,7 @@ impl Course<'_> {
         Ok(Rest {
             place,
             instr,
+            taken,
             doing: HALT,
             wanted: Want::Ended(End::Halted),
         })
@@ -239,27 +256,46 @@ impl Core {
             output: Vec::new(alloc),
             steps: 0,
             instr: 0,
+            taken: 0,
             doing: HALT,
             expected: None,
             pending: None,
         }
     }
 
-    /// Runs the instructions that touch no shared word, up to the next memory step or the end, which is then pending;
-    /// with something pending already, answers that and changes nothing. `full` says that the thread's log has as many
-    /// entries as it may have. An `Err` comes only where these instructions put out a value.
+    /// `go_with` for a thread without input numbers: its `in` ends it.
     pub fn go(&mut self, program: &Program, limits: &Limits, full: bool) -> Result<Want, Memory>
         requires { self.old.thread < length program.now.threads }
-        ensures ok { IfOk result (λ wanted. (self.new ≡ settled program.now limits.now full self.old) × (self.new.pending ≡ Some wanted)) }
+        ensures ok { IfOk result (λ wanted. (self.new ≡ settled program.now limits.now [] full self.old) × (self.new.pending ≡ Some wanted)) }
         ensures err { OnErr result (self.new ≡ self.old) }
-        ensures memory { OnErr result (length self.old.output < length (settled program.now limits.now full self.old).output) }
+        ensures memory { OnErr result (length self.old.output < length (settled program.now limits.now [] full self.old).output) }
+    {
+        self.go_with(program, limits, &[], full)
+    }
+
+    /// Runs the instructions that touch no shared word, up to the next memory step or the end, which is then pending;
+    /// with something pending already, answers that and changes nothing. `inputs` is the thread's input list, the same at
+    /// each call, of at most 65,536 numbers; `full` says that the thread's log has as many entries as it may have. An
+    /// `Err` comes only where these instructions put out a value.
+    pub fn go_with(
+        &mut self,
+        program: &Program,
+        limits: &Limits,
+        inputs: &[u32],
+        full: bool,
+    ) -> Result<Want, Memory>
+        requires thread { self.old.thread < length program.now.threads }
+        requires inputs { length inputs.now ≤ 65536 }
+        ensures ok { IfOk result (λ wanted. (self.new ≡ settled program.now limits.now inputs.now full self.old) × (self.new.pending ≡ Some wanted)) }
+        ensures err { OnErr result (self.new ≡ self.old) }
+        ensures memory { OnErr result (length self.old.output < length (settled program.now limits.now inputs.now full self.old).output) }
     {
         if let Some(wanted) = self.pending {
             return Ok(wanted);
         }
         match self.expected {
             Some(expected) => Ok(self.go_on(limits, full, expected)),
-            None => self.run(program, limits, full),
+            None => self.run(program, limits, inputs, full),
         }
     }
 
@@ -292,16 +328,24 @@ impl Core {
     }
 
     // Runs local instructions up to the next memory step or the end.
-    fn run(&mut self, program: &Program, limits: &Limits, full: bool) -> Result<Want, Memory>
+    fn run(
+        &mut self,
+        program: &Program,
+        limits: &Limits,
+        inputs: &[u32],
+        full: bool,
+    ) -> Result<Want, Memory>
         requires thread { self.old.thread < length program.now.threads }
+        requires inputs { length inputs.now ≤ 65536 }
         requires fresh { self.old.expected ≡ None }
         requires none { self.old.pending ≡ None }
-        ensures ok { IfOk result (λ wanted. (self.new ≡ run_on (code_of program.now self.old.thread) (length program.now.words) limits.now full self.old) × (self.new.pending ≡ Some wanted)) }
+        ensures ok { IfOk result (λ wanted. (self.new ≡ run_on (code_of program.now self.old.thread) (length program.now.words) limits.now inputs.now full self.old) × (self.new.pending ≡ Some wanted)) }
         ensures err { OnErr result (self.new ≡ self.old) }
-        ensures memory { OnErr result (length self.old.output < length (run_on (code_of program.now self.old.thread) (length program.now.words) limits.now full self.old).output) }
+        ensures memory { OnErr result (length self.old.output < length (run_on (code_of program.now self.old.thread) (length program.now.words) limits.now inputs.now full self.old).output) }
     {
         let course = Course {
             code: program.threads(usize::from(self.thread)),
+            inputs,
             words: program.words().len(),
             most_steps: limits.steps(),
             most_instr: limits.instr(),
@@ -315,10 +359,12 @@ impl Core {
             self.place,
             &mut self.output,
             self.instr,
+            self.taken,
         ) {
             Ok(rest) => {
                 self.place = rest.place;
                 self.instr = rest.instr;
+                self.taken = rest.taken;
                 self.doing = rest.doing;
                 self.pending = Some(rest.wanted);
                 Ok(rest.wanted)
@@ -447,6 +493,13 @@ impl Core {
         ensures { result ≡ self.now.instr }
     {
         self.instr
+    }
+
+    /// How many numbers of its input list it has taken.
+    pub fn taken(&self) -> u32
+        ensures { result ≡ self.now.taken }
+    {
+        self.taken
     }
 
     /// What it has put out.

@@ -55,10 +55,12 @@ pub enum Op {
     /// second step, the word becomes R(c) where nobody has written it since, and register 15 becomes 1; where somebody
     /// has, R(a) becomes the value found and then register 15 becomes 2.
     Cas,
+    /// R(a) becomes the next number of the thread's input list.
+    Input,
 }
 
 /// Every operation, in the order of their codes.
-pub const OPS: [Op; 21] = [
+pub const OPS: [Op; 22] = [
     Op::Halt,
     Op::Const,
     Op::Mov,
@@ -80,6 +82,7 @@ pub const OPS: [Op; 21] = [
     Op::Store,
     Op::Xchg,
     Op::Cas,
+    Op::Input,
 ];
 
 impl Op {
@@ -110,7 +113,7 @@ impl Op {
     pub fn uses_b(self) -> bool
         ensures { result ≡ uses_b self }
     {
-        !matches!(self, Op::Halt | Op::Const | Op::Jmp | Op::Out)
+        !matches!(self, Op::Halt | Op::Const | Op::Jmp | Op::Out | Op::Input)
     }
 
     /// Whether the operation uses field c, as a register.

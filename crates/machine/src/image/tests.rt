@@ -86,7 +86,7 @@ fn faults_are_told(rt: HostRuntime) {
         (HALTS.as_slice(), 6, 0, 21, Counts, 0, 0),
         (HALTS.as_slice(), 5, 0x10, 21, Counts, 0, 0),
         (TWO.as_slice(), 9, 0x10, 47, Counts, 0, 0),
-        (HALTS.as_slice(), 13, 21, 21, Opcode, 0, 0),
+        (HALTS.as_slice(), 13, 22, 21, Opcode, 0, 0),
         (TWO.as_slice(), 39, 255, 47, Opcode, 1, 1),
         (TWO.as_slice(), 24, 16, 47, Register, 0, 1),
         (TWO.as_slice(), 32, 16, 47, Register, 1, 0),

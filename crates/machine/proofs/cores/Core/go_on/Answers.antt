@@ -20,6 +20,7 @@ invariant_of-self c =
       output = state.output;
       steps = state.steps;
       instr = state.instr;
+      taken = state.taken;
       room = λ lives. (let left = c.second_wanted-wanted.ensures.room lives in (omega (arith, steps, left), rest.0, rest.1, rest.2, rest.3));
       rest = subst Q (sym half) rest;
     }

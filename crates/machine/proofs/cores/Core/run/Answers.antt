@@ -14,13 +14,13 @@ invariant_of-self c =
     let limits = limits_rules c.args.limits.now c.steps.result c.instr.result c.steps.ensures.rules c.steps.ensures.value c.instr.ensures.value in
     let none = ap (λ (n : State). n.pending) c.self.view_is ∙ c.requires.none in
     let fresh = ap (λ (n : State). n.expected) c.self.view_is ∙ c.requires.fresh in
-    subst IsState (c.in-Ok.ensures.ok s) (run_on-is_state c.threads.result.now (length c.words.result.now) _ c.args.full s rules limits none fresh c.self.invariant)
+    subst IsState (c.in-Ok.ensures.ok s) (run_on-is_state c.threads.result.now (length c.words.result.now) _ c.args.inputs.now c.args.full s rules limits c.requires.inputs none fresh c.self.invariant)
 
 pub returns-in-Ok-clause-ok : goal.returns-in-Ok-clause-ok
 returns-in-Ok-clause-ok c =
     let s = the_view c.self.inside in (
       sym (c.in-Ok.ensures.ok s) ∙
-          run_on-of c.args.program.now c.args.limits.now c.args.full s c.args.self.now c.self.view_is c.from.result c.from.ensures
+          run_on-of c.args.program.now c.args.limits.now c.args.inputs.now c.args.full s c.args.self.now c.self.view_is c.from.result c.from.ensures
           c.threads.result.now c.threads.ensures.value c.words.result.now c.words.ensures.value c.steps.result c.instr.result c.steps.ensures.value c.instr.ensures.value,
       refl,
     )
@@ -28,7 +28,7 @@ returns-in-Ok-clause-ok c =
 pub returns-in-Err-clause-memory : goal.returns-in-Err-clause-memory
 returns-in-Err-clause-memory c =
     let s = the_view c.self.inside in
-    let e = run_on-of c.args.program.now c.args.limits.now c.args.full s c.args.self.now c.self.view_is c.from.result c.from.ensures
+    let e = run_on-of c.args.program.now c.args.limits.now c.args.inputs.now c.args.full s c.args.self.now c.self.view_is c.from.result c.from.ensures
     c.threads.result.now c.threads.ensures.value c.words.result.now c.words.ensures.value c.steps.result c.instr.result c.steps.ensures.value c.instr.ensures.value in
     let a = ap (λ (n : State). length n.output) e in
     let b = ap (λ (n : State). length n.output) c.self.view_is in

@@ -26,7 +26,7 @@ returns-in_err-next-clause-err c =
     let at = slice_get-get_or self.code.now c.loop-place.place halt c.loop-place-test.true in
     let long = begins-long c.args.output.now.items c.loop-place.output.items c.loop-place.invariant.kept in
     on_err c.from_residual.result (λ s.
-    let grows = out-grows self.code.now self.words (bounds_of self) self.full _ (moved s c.loop-place.registers c.loop-place.place c.loop-place.output.items self.steps c.loop-place.instr) at (c.in_err-next.ensures.err s) c.in_err-next.ensures.puts in
+    let grows = out-grows self.code.now self.words (bounds_of self) self.inputs.now self.full _ (moved s c.loop-place.registers c.loop-place.place c.loop-place.output.items self.steps c.loop-place.instr c.loop-place.taken) at (c.in_err-next.ensures.err s) c.in_err-next.ensures.puts in
     let same = ap (λ (n : State). length n.output) (c.loop-place.invariant.same s) in
     omega arith)
 
@@ -37,16 +37,16 @@ pub overflow_add-instr : goal.overflow_add-instr
 overflow_add-instr c =
     let self = c.args.self.now in
     let i = slice_index_or self.code.now c.loop-place.place halt in
-    let old = moved (first_state 0) c.loop-place.registers c.loop-place.place c.loop-place.output.items self.steps c.loop-place.instr in
-    let room = next-room self.words (bounds_of self) self.full i old c.in_ok-next.field-0 c.in-Next.next c.turn.new.registers c.turn.new.output.items c.in-Next.is (c.in_ok-next.ensures.ok (first_state 0)) in
+    let old = moved (first_state 0) c.loop-place.registers c.loop-place.place c.loop-place.output.items self.steps c.loop-place.instr c.loop-place.taken in
+    let room = next-room self.words (bounds_of self) self.inputs.now self.full i old c.in_ok-next.field-0 c.in-Next.next c.turn.new.registers c.turn.new.output.items c.turn.new.taken c.in-Next.is (c.in_ok-next.ensures.ok (first_state 0)) in
     omega arith
 
 pub loop-place-smaller : goal.loop-place-smaller
 loop-place-smaller c =
     let self = c.args.self.now in
     let i = slice_index_or self.code.now c.loop-place.place halt in
-    let old = moved (first_state 0) c.loop-place.registers c.loop-place.place c.loop-place.output.items self.steps c.loop-place.instr in
-    let room = next-room self.words (bounds_of self) self.full i old c.in_ok-next.field-0 c.in-Next.next c.turn.new.registers c.turn.new.output.items c.in-Next.is (c.in_ok-next.ensures.ok (first_state 0)) in
+    let old = moved (first_state 0) c.loop-place.registers c.loop-place.place c.loop-place.output.items self.steps c.loop-place.instr c.loop-place.taken in
+    let room = next-room self.words (bounds_of self) self.inputs.now self.full i old c.in_ok-next.field-0 c.in-Next.next c.turn.new.registers c.turn.new.output.items c.turn.new.taken c.in-Next.is (c.in_ok-next.ensures.ok (first_state 0)) in
     omega arith
 
 pub loop-place-preserved : goal.loop-place-preserved
@@ -56,8 +56,8 @@ loop-place-preserved c =
     let at = slice_get-get_or self.code.now c.loop-place.place halt c.loop-place-test.true in
     record {
       same = λ s. c.loop-place.invariant.same s ∙
-          next-goes self.code.now self.words (bounds_of self) self.full i (moved s c.loop-place.registers c.loop-place.place c.loop-place.output.items self.steps c.loop-place.instr)
-          c.in_ok-next.field-0 c.in-Next.next c.turn.new.registers c.turn.new.output.items at c.in-Next.is (c.in_ok-next.ensures.ok s);
+          next-goes self.code.now self.words (bounds_of self) self.inputs.now self.full i (moved s c.loop-place.registers c.loop-place.place c.loop-place.output.items self.steps c.loop-place.instr c.loop-place.taken)
+          c.in_ok-next.field-0 c.in-Next.next c.turn.new.registers c.turn.new.output.items c.turn.new.taken at c.in-Next.is (c.in_ok-next.ensures.ok s);
       kept = begins-on _ _ _ c.loop-place.invariant.kept c.turn.ensures.kept;
     }
 
@@ -67,8 +67,8 @@ returns-in-Stop-clause-ok c = λ s.
     let i = slice_index_or self.code.now c.loop-place.place halt in
     let at = slice_get-get_or self.code.now c.loop-place.place halt c.loop-place-test.true in
     c.loop-place.invariant.same s ∙
-    stop-rests self.code.now self.words (bounds_of self) self.full i (moved s c.loop-place.registers c.loop-place.place c.loop-place.output.items self.steps c.loop-place.instr)
-    c.in_ok-next.field-0 c.in-Stop.wanted c.turn.new.registers c.turn.new.output.items at c.in-Stop.is (c.in_ok-next.ensures.ok s)
+    stop-rests self.code.now self.words (bounds_of self) self.inputs.now self.full i (moved s c.loop-place.registers c.loop-place.place c.loop-place.output.items self.steps c.loop-place.instr c.loop-place.taken)
+    c.in_ok-next.field-0 c.in-Stop.wanted c.turn.new.registers c.turn.new.output.items c.turn.new.taken at c.in-Stop.is (c.in_ok-next.ensures.ok s)
 
 pub returns-in-Stop-clause-kept : goal.returns-in-Stop-clause-kept
 returns-in-Stop-clause-kept c = begins-on _ _ _ c.loop-place.invariant.kept c.turn.ensures.kept
@@ -77,7 +77,7 @@ pub returns-clause-ok : goal.returns-clause-ok
 returns-clause-ok c = λ s.
     let self = c.args.self.now in
     c.loop-place.invariant.same s ∙
-    run_on-stop self.code.now self.words (bounds_of self) self.full _ None (want.Ended end.Halted)
+    run_on-stop self.code.now self.words (bounds_of self) self.inputs.now self.full _ None (want.Ended end.Halted)
     (slice_get_past self.code.now c.loop-place.place c.loop-place-test.false) refl
 
 pub returns-clause-kept : goal.returns-clause-kept

@@ -6,8 +6,8 @@ use Rattle.machine.proofs.cores.Course.run.Given as goal
 -- from here the run goes where it goes from its start, and the output begins as it was
 abbrev pub invariant-loop-place : goal.invariant-loop-place
 invariant-loop-place l = record {
-  same : (s : State) → run_on l.self.code.now l.self.words (bounds_of l.self) l.self.full (moved s l.initial.registers l.initial.place l.initial.output.items l.self.steps l.initial.instr) ≡
-      run_on l.self.code.now l.self.words (bounds_of l.self) l.self.full (moved s l.registers l.place l.output.items l.self.steps l.instr);
+  same : (s : State) → run_on l.self.code.now l.self.words (bounds_of l.self) l.self.inputs.now l.self.full (moved s l.initial.registers l.initial.place l.initial.output.items l.self.steps l.initial.instr l.initial.taken) ≡
+      run_on l.self.code.now l.self.words (bounds_of l.self) l.self.inputs.now l.self.full (moved s l.registers l.place l.output.items l.self.steps l.instr l.taken);
   kept : take (length l.initial.output.items) l.output.items ≡ l.initial.output.items;
 }
 

@@ -8,8 +8,8 @@ use Rattle.machine.proofs.program.Op.from_code.Goals as goal
 exactly : (code : ℕ) (r : Option Op) → r ≡ op_of code → (o : Op) → (r ≡ Some o → code ≡ code_of_op o) × (code ≡ code_of_op o → r ≡ Some o)
 exactly code r value o = (λ h. code_of_op-op_of code o (sym value ∙ h), λ e. value ∙ ap op_of e ∙ op_of-code_of_op o)
 
-pub returns-then-at-lt21-clause-value : goal.returns-then-at-lt21-clause-value
-returns-then-at-lt21-clause-value c = search rules
+pub returns-then-at-lt22-clause-value : goal.returns-then-at-lt22-clause-value
+returns-then-at-lt22-clause-value c = search rules
 
-pub returns-then-at-lt21-clause-exact : goal.returns-then-at-lt21-clause-exact
-returns-then-at-lt21-clause-exact c = exactly c.args.code _ (returns-then-at-lt21-clause-value c)
+pub returns-then-at-lt22-clause-exact : goal.returns-then-at-lt22-clause-exact
+returns-then-at-lt22-clause-exact c = exactly c.args.code _ (returns-then-at-lt22-clause-value c)

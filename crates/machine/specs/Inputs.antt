@@ -1,0 +1,29 @@
+-- The input numbers of a program: a list for each thread.
+use Rattle.std.specs.Prelude.{ℕ, ◌≤◌, List, [], length, slice_index_or, map, All}
+use Rattle.std.specs.Global.{Vec}
+
+-- the input numbers of a program, the list of thread 0 first
+abbrev pub InputsValue : Type 0
+InputsValue = List (List ℕ)
+
+-- the most numbers of an input list
+abbrev pub most_inputs : ℕ
+most_inputs = 65536
+
+-- the list of a thread; one past the last has no numbers
+abbrev pub inputs_of : InputsValue → ℕ → List ℕ
+inputs_of inputs t = slice_index_or inputs t []
+
+-- no list has more numbers than a thread may take
+abbrev pub AreShort : InputsValue → Type 0
+AreShort inputs = All (λ (list : List ℕ). length list ≤ most_inputs) inputs
+
+-- the rules of inputs
+pub record AreInputs (inputs : InputsValue) : Type 0 where
+  pub some_threads : 1 ≤ length inputs
+  pub most_threads : length inputs ≤ 15
+  pub short : AreShort inputs
+
+-- vectors of numbers, each as the list of its numbers
+abbrev pub input_lists : List (Vec ℕ) → InputsValue
+input_lists lists = map (λ list. list.items) lists
