@@ -27,12 +27,13 @@ pub record State : Type 0 where
   pub expected : Option Expected
   pub pending : Option Want
 
--- how a thread ended, and what it did
+-- how a thread ended, and what it did; taken is how many input numbers it took
 pub record Report : Type 0 where
   pub end : End
   pub steps : ℕ
   pub instr : ℕ
   pub output : List ℕ
+  pub taken : ℕ
 
 -- the most values that a thread puts out
 abbrev pub most_outputs : ℕ
@@ -276,7 +277,7 @@ end_or_halted (Some e) = e
 
 -- what a thread that has ended reports
 abbrev pub report_of : State → Report
-report_of s = record { end = end_or_halted (end_of (pending_want s)); steps = s.steps; instr = s.instr; output = s.output }
+report_of s = record { end = end_or_halted (end_of (pending_want s)); steps = s.steps; instr = s.instr; output = s.output; taken = s.taken }
 
 -- a pending memory step leaves room for itself in the counts and in the code, and its instruction names registers
 abbrev pub HasRoom : Option Want → State → Type 0

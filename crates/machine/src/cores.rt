@@ -30,6 +30,7 @@ pub struct RunReport {
     steps: u32,
     instr: u32,
     output: Vec<u32>,
+    taken: u32,
 }
 
 impl Model for RunReport {
@@ -37,7 +38,7 @@ impl Model for RunReport {
 
     ghost Value = { Report };
 
-    ghost view = { λ r. record { end = r.end; steps = r.steps; instr = r.instr; output = r.output.items } };
+    ghost view = { λ r. record { end = r.end; steps = r.steps; instr = r.instr; output = r.output.items; taken = r.taken } };
 }
 
 /// What the load of a compare-exchange saw, and its second step expects to find again.
@@ -481,6 +482,13 @@ impl Core {
         self.pending = None;
     }
 
+    /// The thread's number.
+    pub fn thread(&self) -> u8
+        ensures { result ≡ self.now.thread }
+    {
+        self.thread
+    }
+
     /// How many memory steps it has taken.
     pub fn steps(&self) -> u32
         ensures { result ≡ self.now.steps }
@@ -535,6 +543,7 @@ impl Core {
             pending,
             steps,
             instr,
+            taken,
             output,
             ..
         } = self;
@@ -546,20 +555,22 @@ impl Core {
             steps,
             instr,
             output,
+            taken,
         }
     }
 }
 
 impl RunReport {
     /// The report of these parts.
-    pub fn new(end: End, steps: u32, instr: u32, output: Vec<u32>) -> RunReport
-        ensures { result ≡ record { end = end; steps = steps; instr = instr; output = output.items } }
+    pub fn new(end: End, steps: u32, instr: u32, output: Vec<u32>, taken: u32) -> RunReport
+        ensures { result ≡ record { end = end; steps = steps; instr = instr; output = output.items; taken = taken } }
     {
         RunReport {
             end,
             steps,
             instr,
             output,
+            taken,
         }
     }
 
@@ -591,13 +602,21 @@ impl RunReport {
         &self.output
     }
 
-    /// The end, the two counts and the output.
-    pub fn into_parts(self) -> (End, u32, u32, Vec<u32>)
+    /// How many input numbers it took.
+    pub fn taken(&self) -> u32
+        ensures { result ≡ self.now.taken }
+    {
+        self.taken
+    }
+
+    /// The end, the numbers of memory steps and of instructions, the output, and the number of input numbers taken.
+    pub fn into_parts(self) -> (End, u32, u32, Vec<u32>, u32)
         ensures end { result.0 ≡ self.end }
         ensures steps { result.1 ≡ self.steps }
         ensures instr { result.2 ≡ self.instr }
         ensures output { result.3.items ≡ self.output }
+        ensures taken { result.4 ≡ self.taken }
     {
-        (self.end, self.steps, self.instr, self.output)
+        (self.end, self.steps, self.instr, self.output, self.taken)
     }
 }
