@@ -7,4 +7,4 @@ next n = min (n + 1) (2 ^ 64 - 1)
 
 -- a count rose: it is greater now, or stands at its last value
 abbrev pub Rose : ℕ → ℕ → Type 0
-Rose before now = next before ≤ now
+Rose before now = (before ≤ now) × (next before ≤ now)

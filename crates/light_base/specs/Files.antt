@@ -21,16 +21,16 @@ SameButAt None new name = new ≡ None
 SameButAt (Some old) new name = IsSomeAnd new (λ f. (other : List ℕ) → other ≢ name → get f other ≡ get old other)
 
 -- when a load answers each fault: one was counted, and at a sound store that tells its files the name isn't there;
--- the file has more bytes than the cap; memory was refused
+-- the file has more bytes than the cap, and none was counted; memory was refused, and none was counted
 abbrev pub LoadFails : Option Files → Bool → List ℕ → ℕ → ℕ → ℕ → StoreFault → Type 0
 LoadFails files sound name cap before now Failed = Rose before now × IfSome files (λ f. IsTrue sound → get f name ≡ None)
 LoadFails files sound name cap before now (TooLong taken) =
-    (taken ≡ cap + 1) × IfSome files (λ f. IsSomeAnd (get f name) (λ bytes. cap < length bytes))
-LoadFails files sound name cap before now Memory = Unit {0}
+    (taken ≡ cap + 1) × IfSome files (λ f. IsSomeAnd (get f name) (λ bytes. cap < length bytes)) × (now ≡ before)
+LoadFails files sound name cap before now Memory = now ≡ before
 
 -- when a save answers each fault: one was counted, and the store isn't sound or doesn't tell its files; never, that a
--- file is too long; memory was refused
-abbrev pub SaveFails : Option Files → Bool → ℕ → ℕ → StoreFault → Type 0
-SaveFails files sound before now Failed = Rose before now × IfSome files (λ _. IsTrue sound → ⊥)
-SaveFails files sound before now (TooLong taken) = ⊥
-SaveFails files sound before now Memory = Unit {0}
+-- file is too long; memory was refused, no file changed, and none was counted
+abbrev pub SaveFails : Option Files → Option Files → Bool → ℕ → ℕ → StoreFault → Type 0
+SaveFails old new sound before now Failed = Rose before now × IfSome old (λ _. IsTrue sound → ⊥)
+SaveFails old new sound before now (TooLong taken) = ⊥
+SaveFails old new sound before now Memory = (new ≡ old) × (now ≡ before)

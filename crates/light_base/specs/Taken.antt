@@ -9,7 +9,7 @@ abbrev pub Appended : Option (List ℕ) → Option (List ℕ) → List ℕ → T
 Appended None new bytes = new ≡ None
 Appended (Some old) new bytes = new ≡ Some (old ++ bytes)
 
--- when a put answers each fault: one was counted; memory was refused
+-- when a put answers each fault: one was counted; memory was refused, and none was counted
 abbrev pub PutFails : ℕ → ℕ → SinkFault → Type 0
 PutFails before now Failed = Rose before now
-PutFails before now Memory = Unit {0}
+PutFails before now Memory = now ≡ before

@@ -1,5 +1,5 @@
 // A sink in memory. Its puts are numbered from 1, and those whose number is in a list fail.
-ghost use Rattle.std.specs.Prelude.{◌≡◌, ◌<◌, ◌≤◌, ◌^◌, ◌++◌, Some, is_some, IfOk, IfErr, OnErr, length, take, min};
+ghost use Rattle.std.specs.Prelude.{◌≡◌, ◌<◌, ◌≤◌, ◌^◌, ◌++◌, Some, is_some, IfOk, IfErr, OnOk, OnErr, length, take, min};
 ghost use Rattle.light_base.specs.Taken.{PutFails};
 ghost use Rattle.light_base.specs.Answered.{put_has_failed};
 ghost use Rattle.light_base.specs.InMemory.{is_failing, empty_sink};
@@ -72,6 +72,7 @@ impl Sink for MemSink {
 
         ensures tells { is_some (Some self.new.taken) ≡ is_some (Some self.old.taken) }
         ensures faults { self.old.faults ≤ self.new.faults }
+        ensures quiet { OnOk result (self.new.faults ≡ self.old.faults) }
         ensures counted { self.new.faults < 2 ^ 64 }
 
         // It fails exactly where its number is among those that fail.

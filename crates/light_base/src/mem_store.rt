@@ -117,6 +117,7 @@ impl Store for MemStore {
         ensures files { Some self.new.files ≡ Some self.old.files }
         ensures sound { is_empty self.new.fail ≡ is_empty self.old.fail }
         ensures faults { self.old.faults ≤ self.new.faults }
+        ensures quiet { OnOk result (self.new.faults ≡ self.old.faults) }
         ensures counted { self.new.faults < 2 ^ 64 }
 
         // It fails exactly where its number is among those that fail, or the name isn't there. Where it doesn't, it
@@ -145,11 +146,12 @@ impl Store for MemStore {
     fn save(&mut self, name: &str, bytes: &[u8]) -> Result<(), StoreFault>
         ensures saved { OnOk result (Some self.new.files ≡ Some (insert self.old.files name.now bytes.now)) }
         ensures refused { OnErr result (SameButAt (Some self.old.files) (Some self.new.files) name.now) }
-        ensures cause { IfErr result (SaveFails (Some self.old.files) (is_empty self.old.fail) self.old.faults self.new.faults) }
+        ensures cause { IfErr result (SaveFails (Some self.old.files) (Some self.new.files) (is_empty self.old.fail) self.old.faults self.new.faults) }
 
         ensures tells { is_some (Some self.new.files) ≡ is_some (Some self.old.files) }
         ensures sound { is_empty self.new.fail ≡ is_empty self.old.fail }
         ensures faults { self.old.faults ≤ self.new.faults }
+        ensures quiet { OnOk result (self.new.faults ≡ self.old.faults) }
         ensures counted { self.new.faults < 2 ^ 64 }
 
         // But for want of memory, it fails exactly where its number is among those that fail.

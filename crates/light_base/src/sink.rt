@@ -1,5 +1,5 @@
 // Where text goes, whatever takes it.
-ghost use Rattle.std.specs.Prelude.{◌≡◌, ◌<◌, ◌≤◌, ◌^◌, ℕ, List, Option, is_some, length, take, IfOk, IfErr, OnErr};
+ghost use Rattle.std.specs.Prelude.{◌≡◌, ◌<◌, ◌≤◌, ◌^◌, ℕ, List, Option, is_some, length, take, IfOk, IfErr, OnOk, OnErr};
 ghost use Rattle.light_base.specs.Taken.{Appended, PutFails};
 
 use std::alloc::AllocError;
@@ -26,7 +26,7 @@ impl From<AllocError> for SinkFault {
 /// What takes bytes, in pieces.
 ///
 /// Whether a sink tells what it took never changes. One that takes no byte of a piece counts a fault and answers
-/// `Failed`.
+/// `Failed`, and no other answer counts one.
 pub trait Sink {
     /// The bytes taken so far, where the sink tells them.
     ghost taken: { Self → Option (List ℕ) };
@@ -45,5 +45,6 @@ pub trait Sink {
 
         ensures tells { is_some (taken self.new) ≡ is_some (taken self.old) }
         ensures faults { faults self.old ≤ faults self.new }
+        ensures quiet { OnOk result (faults self.new ≡ faults self.old) }
         ensures counted { faults self.new < 2 ^ 64 };
 }

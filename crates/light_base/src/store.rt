@@ -40,7 +40,8 @@ impl From<Memory> for StoreFault {
 
 /// Where files are loaded from and saved to.
 ///
-/// Whether a store tells its files never changes, nor whether it is sound.
+/// Whether a store tells its files never changes, nor whether it is sound. A call counts a fault only where it answers
+/// `Failed`.
 pub trait Store {
     /// The files, where the store tells them.
     ghost files: { Self → Option Files };
@@ -64,19 +65,21 @@ pub trait Store {
         ensures files { files self.new ≡ files self.old }
         ensures sound { sound self.new ≡ sound self.old }
         ensures faults { faults self.old ≤ faults self.new }
+        ensures quiet { OnOk result (faults self.new ≡ faults self.old) }
         ensures counted { faults self.new < 2 ^ 64 };
 
-    /// Gives a file these bytes, and leaves all others as they are. After a refusal the file has any bytes, or isn't
-    /// there.
+    /// Gives a file these bytes, and leaves all others as they are. After `Failed` the file has any bytes, or isn't
+    /// there; after `Memory` all files are as they were.
     ///
     /// A sound store that tells its files refuses nothing but for want of memory.
     fn save(&mut self, name: &str, bytes: &[u8]) -> Result<(), StoreFault>
         ensures saved { OnOk result (SavedAs (files self.old) (files self.new) name.now bytes.now) }
         ensures refused { OnErr result (SameButAt (files self.old) (files self.new) name.now) }
-        ensures cause { IfErr result (SaveFails (files self.old) (sound self.old) (faults self.old) (faults self.new)) }
+        ensures cause { IfErr result (SaveFails (files self.old) (files self.new) (sound self.old) (faults self.old) (faults self.new)) }
 
         ensures tells { is_some (files self.new) ≡ is_some (files self.old) }
         ensures sound { sound self.new ≡ sound self.old }
         ensures faults { faults self.old ≤ faults self.new }
+        ensures quiet { OnOk result (faults self.new ≡ faults self.old) }
         ensures counted { faults self.new < 2 ^ 64 };
 }

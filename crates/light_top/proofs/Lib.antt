@@ -1,4 +1,3 @@
 pub mod PrintedFront
 pub mod Numbers
 pub mod Ending
-pub mod Standing

@@ -1,7 +1,9 @@
 -- Statuses: their numbers and their lines.
-use Rattle.std.specs.Prelude.{ℕ, List, [], ◌∷◌, ◌++◌, codes, Result, Ok, Err}
+use Rattle.std.specs.Prelude.{◌≡◌, ◌≢◌, ℕ, ◌+◌, List, [], ◌∷◌, ◌++◌, codes, Result, Ok, Err}
 use Rattle.std.specs.Fmt.{decimal}
+use Rattle.machine.specs.declared.image_fault.ImageKind.TheVariants as kind
 use Rattle.machine.specs.Faults.{number_of_kind}
+use Rattle.assembler.specs.declared.asm_fault.AsmKind.TheVariants as asm_kind
 use Rattle.assembler.specs.Assembled.{number_of_kind as number_of_asm_kind}
 use Rattle.light_top.specs.declared.status.Status.{Status}
 use Rattle.light_top.specs.declared.status.Status.TheVariants as status
@@ -36,6 +38,17 @@ status_line (status.ImageRefused fault) = refusal_line (number_of_kind fault.kin
 status_line (status.AsmRefused fault) = text_line fault.line (number_of_asm_kind fault.kind)
 status_line status.SinkFault = codes "light: output fault" ++ 10 ∷ []
 status_line status.Memory = codes "light: out of memory" ++ 10 ∷ []
+
+-- the most bytes of a file that is loaded
+abbrev pub most_bytes : ℕ
+most_bytes = 8388608
+
+-- the statuses with which files are refused, and what they carry
+abbrev pub IsRefusal : Status → Type 0
+IsRefusal (status.TooLong taken) = taken ≡ most_bytes + 1
+IsRefusal (status.ImageRefused fault) = fault.kind ≢ kind.Memory
+IsRefusal (status.AsmRefused fault) = fault.kind ≢ asm_kind.Memory
+IsRefusal s = ⊥
 
 -- the status of a command that was done, or refused
 abbrev pub status_of : {T : Type 0} → Result T Status → Status

@@ -1,16 +1,17 @@
--- The words of the command line, and the request that they are.
-use Rattle.std.specs.Prelude.{ℕ, Bool, true, false, ◌&&◌, ◌==◌, not, List, [], ◌∷◌, String, map, codes, string_bytes, Option, None, Some, option_map, option_and_then, if◌then◌else◌, nat_le}
+-- The words of the command line, and the command that they are.
+use Rattle.std.specs.Prelude.{ℕ, Bool, true, false, ◌&&◌, ◌==◌, not, List, [], ◌∷◌, String, map, codes, string_bytes, Option, None, Some, if◌then◌else◌, nat_le}
 use Rattle.std.specs.Fmt.{decimal}
 use Rattle.std.specs.Str.{bytes_eq}
 use Rattle.std.specs.Str.Parse.{digits_value}
 use Rattle.machine.specs.Programs.{LimitsValue}
+use Rattle.light_top.specs.declared.words.Command.{Command}
+use Rattle.light_top.specs.declared.words.Command.TheVariants as command
 
--- a command with its words read
-pub data Request : Type 0 where
-  Run : (image : List ℕ) (limits : LimitsValue) → Request
-  Record : (image log : List ℕ) (limits : LimitsValue) → Request
-  Asm : (text image : List ℕ) → Request
-  Listing : (image : List ℕ) → Request
+-- one word after the other, as long as each is what it must be
+infixl 10 ◌>>=◌
+abbrev pub ◌>>=◌ : {A B : Type 0} → Option A → (A → Option B) → Option B
+None >>= f = None
+(Some x) >>= f = f x
 
 abbrev pub texts : {Y : Type 0} → List (String Y) → List (List ℕ)
 texts words = map string_bytes words
@@ -26,41 +27,54 @@ is_plain (c ∷ []) = not (c == 43)
 is_plain (c ∷ d ∷ cs) = not (c == 43) && not (c == 48)
 
 -- a name is any text that isn't empty
-abbrev pub is_name : List ℕ → Bool
-is_name [] = false
-is_name (c ∷ cs) = true
+abbrev pub name_of : List ℕ → Option (List ℕ)
+name_of [] = None
+name_of (c ∷ cs) = Some (c ∷ cs)
 
 -- STEPS INSTR ENTRIES
 abbrev pub limits_of : List ℕ → List ℕ → List ℕ → Option LimitsValue
-limits_of steps instr entries =
-    option_and_then (λ s. option_and_then (λ i. option_and_then (λ e.
-    Some (record { steps = s; instr = i; entries = e })) (number_of 16384 entries)) (number_of 1073741824 instr)) (number_of 268435455 steps)
+limits_of steps instr entries = do
+  s ← number_of 268435455 steps
+  i ← number_of 1073741824 instr
+  e ← number_of 16384 entries
+  Some (record { steps = s; instr = i; entries = e })
 
 -- IMAGE STEPS INSTR ENTRIES
-abbrev pub run_of : List (List ℕ) → Option Request
-run_of (image ∷ steps ∷ instr ∷ entries ∷ []) = if is_name image then option_map (Run image) (limits_of steps instr entries) else None
+abbrev pub run_of : List (List ℕ) → Option Command
+run_of (image ∷ steps ∷ instr ∷ entries ∷ []) = do
+  image ← name_of image
+  limits ← limits_of steps instr entries
+  Some (command.Run image limits)
 run_of _ = None
 
 -- IMAGE LOG STEPS INSTR ENTRIES
-abbrev pub record_of : List (List ℕ) → Option Request
-record_of (image ∷ log ∷ steps ∷ instr ∷ entries ∷ []) =
-    if is_name image && is_name log then option_map (Record image log) (limits_of steps instr entries) else None
+abbrev pub record_of : List (List ℕ) → Option Command
+record_of (image ∷ log ∷ steps ∷ instr ∷ entries ∷ []) = do
+  image ← name_of image
+  log ← name_of log
+  limits ← limits_of steps instr entries
+  Some (command.Record image log limits)
 record_of _ = None
 
 -- TEXT IMAGE
-abbrev pub asm_of : List (List ℕ) → Option Request
-asm_of (text ∷ image ∷ []) = if is_name text && is_name image then Some (Asm text image) else None
+abbrev pub asm_of : List (List ℕ) → Option Command
+asm_of (text ∷ image ∷ []) = do
+  text ← name_of text
+  image ← name_of image
+  Some (command.Asm text image)
 asm_of _ = None
 
 -- IMAGE
-abbrev pub list_of : List (List ℕ) → Option Request
-list_of (image ∷ []) = if is_name image then Some (Listing image) else None
+abbrev pub list_of : List (List ℕ) → Option Command
+list_of (image ∷ []) = do
+  image ← name_of image
+  Some (command.List image)
 list_of _ = None
 
 -- the command is named by the first word, and takes exactly the words shown
-abbrev pub request_of : List (List ℕ) → Option Request
-request_of [] = None
-request_of (verb ∷ rest) =
+abbrev pub command_of : List (List ℕ) → Option Command
+command_of [] = None
+command_of (verb ∷ rest) =
     if bytes_eq verb (codes "run") then run_of rest
     else if bytes_eq verb (codes "record") then record_of rest
     else if bytes_eq verb (codes "asm") then asm_of rest

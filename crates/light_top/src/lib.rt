@@ -1,21 +1,16 @@
 //! The commands, over any store and any sink.
 #![tactic(auto)]
 
-mod asm;
-mod list;
-mod load;
+mod bytes;
+mod delivery;
+mod image;
+mod loading;
+mod output;
 mod print;
-mod read;
-mod recording;
-mod run;
-mod save;
 mod status;
-mod text;
+mod task;
 mod top;
 mod words;
 
 pub use status::{Status, status_text};
 pub use top::light;
-
-#[cfg(test)]
-mod tests;

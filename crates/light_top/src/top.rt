@@ -1,49 +1,32 @@
 // The top call: all that the program does, over any store and any sink.
 ghost use Rattle.std.specs.Prelude.{◌≡◌, IfSome, None, ◌↔◌, ◌⊎◌};
 ghost use Rattle.light_base.specs.Causes.{Rose};
-ghost use Rattle.light_top.specs.Words.{texts, request_of};
-ghost use Rattle.light_top.specs.Said.{said};
+ghost use Rattle.light_top.specs.Words.{texts, command_of};
 ghost use Rattle.light_top.specs.Statuses.{status_of};
-ghost use Rattle.light_top.specs.Ends.{outside, Ends, Answers, CanBeDone, Continues};
+ghost use Rattle.light_top.specs.Outside.{outside};
+ghost use Rattle.light_top.specs.Ends.{Ends, Answers, CanBeDone, Continues};
 
 use crate::Status;
-use crate::asm::asm;
-use crate::list::list;
-use crate::recording::record;
-use crate::run::run;
+use crate::delivery::deliver;
+use crate::loading::take_up;
+use crate::task::perform;
 use crate::words::{Command, read_command};
 use light_base::{Sink, Store};
 use std::alloc::Global;
 
-fn ended(done: Result<(), Status>) -> Status
-    ensures { result ≡ status_of done }
-{
-    match done {
-        Ok(()) => Status::Ok,
-        Err(status) => status,
-    }
-}
-
-// Does what a command says.
-fn perform<S: Store, K: Sink>(
+// Takes a command's task up, does it, and delivers what it gives.
+fn carry_out<S: Store, K: Sink>(
     alloc: Global,
     store: &mut S,
     out: &mut K,
     command: Command<'_>,
-) -> Status
-    ensures ends { Ends (said command.entry) (outside S.files S.sound S.faults K.taken K.faults store.old out.old)
-        (outside S.files S.sound S.faults K.taken K.faults store.new out.new) result }
-    ensures continues { Continues (outside S.files S.sound S.faults K.taken K.faults store.old out.old)
-        (outside S.files S.sound S.faults K.taken K.faults store.new out.new) }
+) -> Result<(), Status>
+    ensures { Ends command.entry (outside S.files S.sound S.faults K.taken K.faults store.old out.old)
+        (outside S.files S.sound S.faults K.taken K.faults store.new out.new) (status_of result) }
 {
-    match command {
-        Command::Run { image, limits } => ended(run(alloc, store, out, image, limits)),
-        Command::Record { image, log, limits } => {
-            ended(record(alloc, store, out, image, log, limits))
-        }
-        Command::Asm { text, image } => ended(asm(alloc, store, text, image)),
-        Command::Listing { image } => ended(list(alloc, store, out, image)),
-    }
+    let task = take_up(alloc, store, command)?;
+    let output = perform(alloc, task)?;
+    deliver(store, out, &output)
 }
 
 /// Does what the words say.
@@ -54,18 +37,18 @@ pub fn light<S: Store, K: Sink>(
     out: &mut K,
 ) -> Status
     // Words that are no command do nothing.
-    ensures usage { (result ≡ Status.Usage) ↔ (request_of (texts words.now) ≡ None) }
+    ensures usage { (result ≡ Status.Usage) ↔ (command_of (texts words.now) ≡ None) }
     ensures untouched { result ≡ Status.Usage → (store.new ≡ store.old) × (out.new ≡ out.old) }
 
     // Each status has its cause, and leaves what it may.
-    ensures ends { IfSome (request_of (texts words.now)) (λ r. Ends r (outside S.files S.sound S.faults K.taken K.faults store.old out.old)
+    ensures ends { IfSome (command_of (texts words.now)) (λ command. Ends command (outside S.files S.sound S.faults K.taken K.faults store.old out.old)
         (outside S.files S.sound S.faults K.taken K.faults store.new out.new) result) }
     ensures continues { Continues (outside S.files S.sound S.faults K.taken K.faults store.old out.old)
         (outside S.files S.sound S.faults K.taken K.faults store.new out.new) }
 
     // What stands in the way is answered, and where nothing does, it is done.
-    ensures answers { IfSome (request_of (texts words.now)) (λ r. IfSome (S.files store.old) (λ files. Answers r files (S.sound store.old) result)) }
-    ensures complete { IfSome (request_of (texts words.now)) (λ r. CanBeDone r (outside S.files S.sound S.faults K.taken K.faults store.old out.old)
+    ensures answers { IfSome (command_of (texts words.now)) (λ command. IfSome (S.files store.old) (λ files. Answers command files (S.sound store.old) result)) }
+    ensures complete { IfSome (command_of (texts words.now)) (λ command. CanBeDone command (outside S.files S.sound S.faults K.taken K.faults store.old out.old)
         (outside S.files S.sound S.faults K.taken K.faults store.new out.new) → (result ≡ Status.Ok) ⊎ (result ≡ Status.Memory)) }
 
     // The two faults come from outside.
@@ -73,7 +56,10 @@ pub fn light<S: Store, K: Sink>(
     ensures sink_fault { result ≡ Status.SinkFault → Rose (K.faults out.old) (K.faults out.new) }
 {
     match read_command(words) {
-        Some(command) => perform(alloc, store, out, command),
+        Some(command) => match carry_out(alloc, store, out, command) {
+            Ok(()) => Status::Ok,
+            Err(status) => status,
+        },
         None => Status::Usage,
     }
 }

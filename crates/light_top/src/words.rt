@@ -1,32 +1,64 @@
 // The words of the command line.
-ghost use Rattle.std.specs.Prelude.{◌≡◌, ◌<◌, ◌^◌, Option, option_map, None, Some};
-ghost use Rattle.light_top.specs.Words.{is_plain, number_of, limits_of, texts, run_of, record_of, asm_of, list_of, request_of};
-ghost use Rattle.light_top.specs.Said.{said};
+ghost use Rattle.std.specs.Prelude.{◌≡◌, ◌<◌, ◌^◌};
+ghost use Rattle.light_top.specs.Words.{is_plain, number_of, name_of, limits_of, texts, run_of, record_of, asm_of, list_of, command_of};
 
 use machine::Limits;
+use std::marker::Model;
+
+/// A file's name: any text that isn't empty.
+#[derive(Drop)]
+pub struct Name<'a> {
+    text: &'a str,
+}
+
+impl<'a> Model for Name<'a> {
+    ghost use Rattle.std.specs.Prelude.{ℕ, List};
+
+    ghost Value = { List ℕ };
+
+    ghost view = { λ n. n.text.now };
+}
+
+impl<'a> Name<'a> {
+    fn of(text: &'a str) -> Option<Name<'a>>
+        ensures { result ≡ name_of text.now }
+    {
+        if text.is_empty() {
+            None
+        } else {
+            Some(Name { text })
+        }
+    }
+
+    pub fn as_str(&self) -> &str
+        ensures { result.now ≡ self.now }
+    {
+        self.text
+    }
+}
 
 /// A command with its words read.
-#[derive(Clone, Copy)]
+#[derive(Drop)]
 pub enum Command<'a> {
     /// Plays the program of an image by turns.
     Run {
-        image: &'a str,
+        image: Name<'a>,
         limits: Limits,
     },
     /// Plays it so, and saves the log.
     Record {
-        image: &'a str,
-        log: &'a str,
+        image: Name<'a>,
+        log: Name<'a>,
         limits: Limits,
     },
     /// Saves the image of the program that a text says.
     Asm {
-        text: &'a str,
-        image: &'a str,
+        text: Name<'a>,
+        image: Name<'a>,
     },
     /// Prints the program of an image as text.
-    Listing {
-        image: &'a str,
+    List {
+        image: Name<'a>,
     },
 }
 
@@ -64,11 +96,11 @@ fn limits(steps: &str, instr: &str, entries: &str) -> Option<Limits>
 }
 
 fn run<'a>(words: &'a [String]) -> Option<Command<'a>>
-    ensures { option_map said result ≡ run_of (texts words.now) }
+    ensures { result ≡ run_of (texts words.now) }
 {
     match words {
-        [image, steps, instr, entries] if !image.is_empty() => Some(Command::Run {
-            image: image.as_str(),
+        [image, steps, instr, entries] => Some(Command::Run {
+            image: Name::of(image.as_str())?,
             limits: limits(steps.as_str(), instr.as_str(), entries.as_str())?,
         }),
         _ => None,
@@ -76,38 +108,36 @@ fn run<'a>(words: &'a [String]) -> Option<Command<'a>>
 }
 
 fn record<'a>(words: &'a [String]) -> Option<Command<'a>>
-    ensures { option_map said result ≡ record_of (texts words.now) }
+    ensures { result ≡ record_of (texts words.now) }
 {
     match words {
-        [image, log, steps, instr, entries] if !image.is_empty() && !log.is_empty() => {
-            Some(Command::Record {
-                image: image.as_str(),
-                log: log.as_str(),
-                limits: limits(steps.as_str(), instr.as_str(), entries.as_str())?,
-            })
-        }
+        [image, log, steps, instr, entries] => Some(Command::Record {
+            image: Name::of(image.as_str())?,
+            log: Name::of(log.as_str())?,
+            limits: limits(steps.as_str(), instr.as_str(), entries.as_str())?,
+        }),
         _ => None,
     }
 }
 
 fn asm<'a>(words: &'a [String]) -> Option<Command<'a>>
-    ensures { option_map said result ≡ asm_of (texts words.now) }
+    ensures { result ≡ asm_of (texts words.now) }
 {
     match words {
-        [text, image] if !text.is_empty() && !image.is_empty() => Some(Command::Asm {
-            text: text.as_str(),
-            image: image.as_str(),
+        [text, image] => Some(Command::Asm {
+            text: Name::of(text.as_str())?,
+            image: Name::of(image.as_str())?,
         }),
         _ => None,
     }
 }
 
 fn list<'a>(words: &'a [String]) -> Option<Command<'a>>
-    ensures { option_map said result ≡ list_of (texts words.now) }
+    ensures { result ≡ list_of (texts words.now) }
 {
     match words {
-        [image] if !image.is_empty() => Some(Command::Listing {
-            image: image.as_str(),
+        [image] => Some(Command::List {
+            image: Name::of(image.as_str())?,
         }),
         _ => None,
     }
@@ -115,7 +145,7 @@ fn list<'a>(words: &'a [String]) -> Option<Command<'a>>
 
 /// The command that the words are, if they are one.
 pub fn read_command<'a>(words: &'a [String]) -> Option<Command<'a>>
-    ensures { option_map said result ≡ request_of (texts words.now) }
+    ensures { result ≡ command_of (texts words.now) }
 {
     match words {
         [verb, rest @ ..] => match verb.as_str() {

@@ -1,7 +1,8 @@
 // Reading the image of a program.
-ghost use Rattle.std.specs.Prelude.{◌≡◌, ◌≢◌, ◌*◌, ◌≤◌, if◌then◌else◌, length, sum, Some, None, Ok, true, IfOk, IfErr, IfSome, OnSome, MatchResult};
+ghost use Rattle.std.specs.Prelude.{◌≡◌, ◌≢◌, ◌↔◌, ℕ, ◌*◌, ◌≤◌, List, if◌then◌else◌, length, sum, Some, None, Ok, true, IfOk, IfErr, IfSome, OnSome, MatchResult};
 ghost use Rattle.std.specs.List.{list_all};
 ghost use Rattle.std.specs.Int.{w16, w32};
+ghost use Rattle.light_base.specs.Numbers.{IsBytes};
 ghost use Rattle.machine.specs.Programs.{ProgramValue, IsProgram, code_lists};
 ghost use Rattle.machine.specs.declared.image_fault.ImageKind.TheVariants.{Memory};
 ghost use Rattle.machine.specs.Images.{HasNumbers, IsImage, image_of};
@@ -177,6 +178,11 @@ pub fn read_image(alloc: Global, bytes: &[u8]) -> Result<Program, ImageFault>
     let (words, threads) = parts_of(alloc, bytes)?;
     Ok(Program::sound(words, threads))
 }
+
+/// Bytes are the image of a program exactly where they are read as this program.
+pub fn image_law()
+    ensures { (bytes : List ℕ) (p : ProgramValue) → IsBytes bytes → (image_read bytes ≡ Ok p) ↔ IsImage bytes p }
+{}
 
 /// Two programs with the same image are equal.
 pub fn images_differ()

@@ -9,7 +9,7 @@ mod laws;
 mod program;
 
 pub use crate::cores::{Core, RunReport};
-pub use crate::image::{images_differ, read_image};
+pub use crate::image::{image_law, images_differ, read_image};
 pub use crate::image_fault::{ImageFault, ImageKind};
 pub use crate::image_writing::write_image;
 pub use crate::laws::machine_law;

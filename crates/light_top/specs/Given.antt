@@ -1,0 +1,67 @@
+-- What the files say of a command: the task that is to be done, or what stands in the way first.
+use Rattle.std.specs.Prelude.{◌≡◌, ℕ, ◌+◌, nat_lt, Bool, IsTrue, List, length, Option, None, Some, Result, Ok, Err, IfSome, if◌then◌else◌}
+use Rattle.std.specs.FinMap.{get}
+use Rattle.light_base.specs.Causes.{Rose}
+use Rattle.light_base.specs.FileMap.{Files}
+use Rattle.machine.specs.Programs.{ProgramValue}
+use Rattle.light_top.specs.Images.{ImageValue, as_image, as_text}
+use Rattle.light_top.specs.Statuses.{most_bytes, IsRefusal}
+use Rattle.light_top.specs.declared.words.Command.{Command}
+use Rattle.light_top.specs.declared.words.Command.TheVariants as command
+use Rattle.light_top.specs.declared.task.Task.{Task}
+use Rattle.light_top.specs.declared.task.Task.TheVariants as task
+use Rattle.light_top.specs.declared.status.Status.{Status}
+use Rattle.light_top.specs.declared.status.Status.TheVariants as status
+
+-- one step after the other, up to the first that stands in the way
+infixl 10 ◌>>=◌
+abbrev pub ◌>>=◌ : {A B : Type 0} → Result A Status → (A → Result B Status) → Result B Status
+(Ok x) >>= f = f x
+(Err s) >>= f = Err s
+
+-- a file that is there is loaded where it has at most so many bytes
+abbrev pub loaded : Option (List ℕ) → Result (List ℕ) Status
+loaded None = Err status.StoreFault
+loaded (Some bytes) = if nat_lt most_bytes (length bytes) then Err (status.TooLong (most_bytes + 1)) else Ok bytes
+
+abbrev pub file_in : Files → List ℕ → Result (List ℕ) Status
+file_in files name = loaded (get files name)
+
+-- the image, and the program of the text, in the file of that name
+abbrev pub image_in : Files → List ℕ → Result ImageValue Status
+image_in files name = file_in files name >>= as_image
+
+abbrev pub text_in : Files → List ℕ → Result ProgramValue Status
+text_in files name = file_in files name >>= as_text
+
+-- the task of a command
+abbrev pub given : Command → Files → Result Task Status
+given (command.Run image limits) files = do
+  i ← image_in files image
+  Ok (task.Play i limits)
+given (command.Record image log limits) files = do
+  i ← image_in files image
+  Ok (task.Record i log limits)
+given (command.Asm text image) files = do
+  program ← text_in files text
+  Ok (task.Assemble program image)
+given (command.List image) files = do
+  i ← image_in files image
+  Ok (task.List i)
+
+-- ---- what is answered of this
+
+-- this is what the files give, where they are told
+abbrev pub Gives : {X : Type 0} → Option Files → (Files → Result X Status) → X → Type 0
+Gives files f x = IfSome files (λ fs. f fs ≡ Ok x)
+
+-- reading refuses with this status, or memory was refused
+abbrev pub NotRead : {X : Type 0} → Result X Status → Status → Type 0
+NotRead read status.Memory = Unit {0}
+NotRead read s = IsRefusal s × (read ≡ Err s)
+
+-- why nothing is given, while a count of faults went from one number to another: a fault was counted, and at a sound store that tells its files the name isn't there; memory was refused; or the files say so
+abbrev pub NotGiven : {X : Type 0} → Option Files → Bool → ℕ → ℕ → (Files → Result X Status) → Status → Type 0
+NotGiven files sound before now f status.StoreFault = Rose before now × IfSome files (λ fs. IsTrue sound → f fs ≡ Err status.StoreFault)
+NotGiven files sound before now f status.Memory = now ≡ before
+NotGiven files sound before now f s = IsRefusal s × IfSome files (λ fs. f fs ≡ Err s) × (now ≡ before)

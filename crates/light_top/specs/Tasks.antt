@@ -1,0 +1,25 @@
+-- What each task means: what is printed and saved where it is done.
+use Rattle.std.specs.Prelude.{◌≡◌, List, ℕ, []}
+use Rattle.sha2.specs.Sha256.{sha256}
+use Rattle.machine.specs.Images.{IsImage}
+use Rattle.machine.specs.Runs.{rounds_of}
+use Rattle.history.specs.HistoryLogs.{log_of_history}
+use Rattle.log_file.specs.Spelling.{spelling}
+use Rattle.transcript.specs.Transcripts.{transcript_of}
+use Rattle.assembler.specs.Canonical.{canonical}
+use Rattle.light_top.specs.Outputs.{Output, printed, printed_and_saved, saved}
+use Rattle.light_top.specs.declared.task.Task.{Task}
+use Rattle.light_top.specs.declared.task.Task.TheVariants as task
+
+abbrev pub Means : Task → Output → Type 0
+-- the transcript of the program's threads taking turns in rounds
+Means (task.Play image limits) output =
+    IsImage image.bytes image.program × (output ≡ printed (transcript_of image.program limits (rounds_of image.program limits)))
+-- this transcript, and the log of this very history, with the image's digest
+Means (task.Record image log limits) output = IsImage image.bytes image.program ×
+    (output ≡ printed_and_saved (transcript_of image.program limits (rounds_of image.program limits)) log
+    (spelling (log_of_history image.program limits (sha256 image.bytes) (rounds_of image.program limits))))
+-- the image of the program
+Means (task.Assemble program image) output = (bytes : List ℕ) × IsImage bytes program × (output ≡ saved image bytes)
+-- the canonical text of the program
+Means (task.List image) output = IsImage image.bytes image.program × (output ≡ printed (canonical image.program))

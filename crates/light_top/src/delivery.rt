@@ -1,0 +1,33 @@
+// What a command gives is saved and printed.
+ghost use Rattle.std.specs.Prelude.{◌≡◌};
+ghost use Rattle.light_top.specs.Statuses.{status_of};
+ghost use Rattle.light_top.specs.Outside.{outside};
+ghost use Rattle.light_top.specs.Delivery.{Delivered};
+
+use crate::Status;
+use crate::output::Output;
+use crate::print::print;
+use light_base::{Sink, SinkFault, Store, StoreFault};
+
+/// Saves the file of an output, if it has one, and then prints the text.
+pub fn deliver<S: Store, K: Sink>(
+    store: &mut S,
+    out: &mut K,
+    output: &Output<'_>,
+) -> Result<(), Status>
+    ensures { Delivered output.now (outside S.files S.sound S.faults K.taken K.faults store.old out.old)
+        (outside S.files S.sound S.faults K.taken K.faults store.new out.new) (status_of result) }
+{
+    if let Some(saved) = &output.saved {
+        match store.save(saved.name.as_str(), saved.bytes.as_slice()) {
+            Ok(()) => {}
+            Err(StoreFault::Failed) => return Err(Status::StoreFault),
+            Err(_) => return Err(Status::Memory),
+        }
+    }
+    match print(out, output.text.as_slice()) {
+        Ok(()) => Ok(()),
+        Err(SinkFault::Failed) => Err(Status::SinkFault),
+        Err(SinkFault::Memory) => Err(Status::Memory),
+    }
+}

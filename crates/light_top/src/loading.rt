@@ -1,0 +1,113 @@
+// What the files of a command are read as, before anything is done.
+ghost use Rattle.std.specs.Prelude.{◌≡◌, ◌≤◌, length, Ok, OnOk, IfOk, IfErr};
+ghost use Rattle.light_top.specs.Statuses.{most_bytes};
+ghost use Rattle.light_top.specs.Images.{as_text};
+ghost use Rattle.light_top.specs.Given.{file_in, image_in, text_in, given, Gives, NotRead, NotGiven};
+
+use crate::Status;
+use crate::bytes::Bytes;
+use crate::image::Image;
+use crate::task::Task;
+use crate::words::{Command, Name};
+use assembler::{AsmFault, AsmKind, assemble};
+use light_base::{Store, StoreFault};
+use machine::Program;
+use std::alloc::Global;
+
+/// The most bytes of a file that is loaded.
+const MOST_BYTES: u64 = 8_388_608;
+
+// The whole bytes of a file. The files stay as they are.
+fn load<S: Store>(alloc: Global, store: &mut S, name: &Name<'_>) -> Result<Bytes, Status>
+    ensures ok { IfOk result (Gives (S.files store.old) (λ files. file_in files name.now)) }
+    ensures err { IfErr result (NotGiven (S.files store.old) (S.sound store.old) (S.faults store.old) (S.faults store.new) (λ files. file_in files name.now)) }
+    ensures short { IfOk result (λ bytes. length bytes ≤ most_bytes) }
+
+    ensures files { S.files store.new ≡ S.files store.old }
+    ensures sound { S.sound store.new ≡ S.sound store.old }
+    ensures quiet { OnOk result (S.faults store.new ≡ S.faults store.old) }
+{
+    match store.load(alloc, name.as_str(), MOST_BYTES) {
+        Ok(bytes) => Ok(Bytes::of(bytes)),
+        Err(StoreFault::Failed) => Err(Status::StoreFault),
+        Err(StoreFault::TooLong { taken }) => Err(Status::TooLong { taken }),
+        Err(StoreFault::Memory) => Err(Status::Memory),
+    }
+}
+
+// The image in a file.
+fn load_image<S: Store>(alloc: Global, store: &mut S, name: &Name<'_>) -> Result<Image, Status>
+    ensures ok { IfOk result (Gives (S.files store.old) (λ files. image_in files name.now)) }
+    ensures err { IfErr result (NotGiven (S.files store.old) (S.sound store.old) (S.faults store.old) (S.faults store.new) (λ files. image_in files name.now)) }
+
+    ensures files { S.files store.new ≡ S.files store.old }
+    ensures sound { S.sound store.new ≡ S.sound store.old }
+    ensures quiet { OnOk result (S.faults store.new ≡ S.faults store.old) }
+{
+    let bytes = load(alloc, store, name)?;
+    Image::read(alloc, bytes)
+}
+
+// The program that a text says.
+fn assemble_text(alloc: Global, text: &[u8]) -> Result<Program, Status>
+    requires { length text.now ≤ most_bytes }
+    ensures ok { IfOk result (λ program. as_text text.now ≡ Ok program) }
+    ensures err { IfErr result (NotRead (as_text text.now)) }
+{
+    match assemble(alloc, text) {
+        Ok(program) => Ok(program),
+        Err(
+            AsmFault {
+                kind: AsmKind::Memory,
+                ..
+            },
+        ) => Err(Status::Memory),
+        Err(fault) => Err(Status::AsmRefused(fault)),
+    }
+}
+
+// The program of the text in a file.
+fn load_text<S: Store>(alloc: Global, store: &mut S, name: &Name<'_>) -> Result<Program, Status>
+    ensures ok { IfOk result (Gives (S.files store.old) (λ files. text_in files name.now)) }
+    ensures err { IfErr result (NotGiven (S.files store.old) (S.sound store.old) (S.faults store.old) (S.faults store.new) (λ files. text_in files name.now)) }
+
+    ensures files { S.files store.new ≡ S.files store.old }
+    ensures sound { S.sound store.new ≡ S.sound store.old }
+    ensures quiet { OnOk result (S.faults store.new ≡ S.faults store.old) }
+{
+    let bytes = load(alloc, store, name)?;
+    assemble_text(alloc, bytes.as_slice())
+}
+
+/// Loads what a command names, and reads it: the task that is to be done. The files stay as they are.
+pub fn take_up<'a, S: Store>(
+    alloc: Global,
+    store: &mut S,
+    command: Command<'a>,
+) -> Result<Task<'a>, Status>
+    ensures ok { IfOk result (Gives (S.files store.old) (given command.entry)) }
+    ensures err { IfErr result (NotGiven (S.files store.old) (S.sound store.old) (S.faults store.old) (S.faults store.new) (given command.entry)) }
+
+    ensures files { S.files store.new ≡ S.files store.old }
+    ensures sound { S.sound store.new ≡ S.sound store.old }
+    ensures quiet { OnOk result (S.faults store.new ≡ S.faults store.old) }
+{
+    match command {
+        Command::Run { image, limits } => {
+            let image = load_image(alloc, store, &image)?;
+            Ok(Task::Play { image, limits })
+        }
+        Command::Record { image, log, limits } => {
+            let image = load_image(alloc, store, &image)?;
+            Ok(Task::Record { image, log, limits })
+        }
+        Command::Asm { text, image } => {
+            let program = load_text(alloc, store, &text)?;
+            Ok(Task::Assemble { program, image })
+        }
+        Command::List { image } => {
+            let image = load_image(alloc, store, &image)?;
+            Ok(Task::List { image })
+        }
+    }
+}

@@ -1,0 +1,105 @@
+// Tasks: what is done of values alone, once all that a command names was loaded and read.
+ghost use Rattle.std.specs.Prelude.{◌≡◌, IfOk, [], Some};
+ghost use Rattle.sha2.specs.Sha256.{sha256};
+ghost use Rattle.machine.specs.Runs.{rounds_of};
+ghost use Rattle.history.specs.HistoryLogs.{log_of_history};
+ghost use Rattle.log_file.specs.Spelling.{spelling};
+ghost use Rattle.transcript.specs.Transcripts.{transcript_of};
+ghost use Rattle.light_top.specs.Tasks.{Means};
+
+use crate::bytes::Bytes;
+use crate::image::Image;
+use crate::output::{Output, Saved};
+use crate::words::Name;
+use history::Plain;
+use light_base::Memory;
+use log_file::{digest_of, write_log};
+use machine::{Limits, Program, write_image};
+use recorder::record_turns;
+use std::alloc::Global;
+use transcript::text_of;
+
+/// What a command is to do.
+#[derive(Drop)]
+pub enum Task<'a> {
+    /// To play a program by turns.
+    Play {
+        image: Image,
+        limits: Limits,
+    },
+    /// To play it so, and to save the log.
+    Record {
+        image: Image,
+        log: Name<'a>,
+        limits: Limits,
+    },
+    /// To save the image of a program.
+    Assemble {
+        program: Program,
+        image: Name<'a>,
+    },
+    /// To print a program as text.
+    List {
+        image: Image,
+    },
+}
+
+// The transcript of a program whose threads take turns in rounds.
+fn play(alloc: Global, program: &Program, limits: Limits) -> Result<Bytes, Memory>
+    ensures { IfOk result (λ text. text ≡ transcript_of program.now limits (rounds_of program.now limits)) }
+{
+    let mut plain = Plain::new(alloc, program, limits)?;
+    plain.turns()?;
+    let finals = plain.values()?;
+    let reports = plain.into_reports()?;
+    let text = text_of(alloc, &reports, &finals)?;
+    Ok(Bytes::of(text))
+}
+
+// The transcript of a program whose threads take turns in rounds, and the log of this history, with the image's digest.
+fn record(
+    alloc: Global,
+    program: &Program,
+    limits: &Limits,
+    image: &[u8],
+) -> Result<(Bytes, Bytes), Memory>
+    ensures text { IfOk result (λ made. made.0 ≡ transcript_of program.now limits.now (rounds_of program.now limits.now)) }
+    ensures log { IfOk result (λ made. made.1 ≡ spelling (log_of_history program.now limits.now (sha256 image.now) (rounds_of program.now limits.now))) }
+{
+    let recorded = record_turns(alloc, program, limits, &[])?;
+    let (mut log, reports, finals) = recorded.into_parts();
+    log.set_digest(digest_of(image));
+    let saved = write_log(alloc, &log)?;
+    let text = text_of(alloc, &reports, &finals)?;
+    Ok((Bytes::of(text), Bytes::of(saved)))
+}
+
+/// Does a task.
+pub fn perform<'a>(alloc: Global, task: Task<'a>) -> Result<Output<'a>, Memory>
+    ensures { IfOk result (Means task.entry) }
+{
+    match task {
+        Task::Play { image, limits } => {
+            let text = play(alloc, image.program(), limits)?;
+            Ok(Output { text, saved: None })
+        }
+        Task::Record { image, log, limits } => {
+            let (text, bytes) = record(alloc, image.program(), &limits, image.bytes())?;
+            Ok(Output {
+                text,
+                saved: Some(Saved { name: log, bytes }),
+            })
+        }
+        Task::Assemble { program, image } => {
+            let bytes = Bytes::of(write_image(alloc, &program)?);
+            Ok(Output {
+                text: Bytes::of(Vec::new(alloc)),
+                saved: Some(Saved { name: image, bytes }),
+            })
+        }
+        Task::List { image } => {
+            let text = Bytes::of(assembler::list(alloc, image.program())?);
+            Ok(Output { text, saved: None })
+        }
+    }
+}
