@@ -1,11 +1,10 @@
 // How the program ends: with which exit status, and what it tells.
 ghost use Rattle.std.specs.Prelude.{◌≡◌, ◌⊎◌, OnOk, OnErr, IfErr};
 ghost use Rattle.std.specs.Process.{exit_status};
-ghost use Rattle.light_base.specs.Taken.{Appended, PutFails};
-ghost use Rattle.light_top.specs.Delivery.{TookFront};
+ghost use Rattle.light_base.specs.Taken.{Appended, PutFails, TookFront};
 ghost use Rattle.light_top.specs.Statuses.{code_of, status_line};
 
-use light_base::{Sink, SinkFault};
+use light_base::{Sink, SinkFault, put_all};
 use light_top::{Status, status_text};
 use std::alloc::Global;
 use std::process::ExitCode;
@@ -15,21 +14,6 @@ pub fn exit_code(status: &Status) -> ExitCode
     ensures { exit_status result ≡ code_of status.now }
 {
     ExitCode::from(status.code())
-}
-
-// Puts all the bytes.
-fn put_all<K: Sink>(out: &mut K, bytes: &[u8]) -> Result<(), SinkFault>
-    ensures ok { OnOk result (Appended (K.taken out.old) (K.taken out.new) bytes.now) }
-    ensures refused { OnErr result (TookFront (K.taken out.old) (K.taken out.new) bytes.now) }
-    ensures cause { IfErr result (PutFails (K.faults out.old) (K.faults out.new)) }
-    ensures quiet { OnOk result (K.faults out.new ≡ K.faults out.old) }
-{
-    let mut rest = bytes;
-    while !rest.is_empty() {
-        let count = out.put(rest)?;
-        rest = rest.split_at(count).1;
-    }
-    Ok(())
 }
 
 /// Tells the line of a status. After a refusal the sink has taken nothing, or a front of the line, and not all of it.
