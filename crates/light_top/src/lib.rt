@@ -16,6 +16,3 @@ mod words;
 
 pub use status::{Status, status_text};
 pub use top::light;
-
-#[cfg(test)]
-mod tests;
