@@ -21,6 +21,3 @@ pub use put::{put_u16, put_u32};
 pub use sink::{Sink, SinkFault};
 pub use store::{Store, StoreFault};
 pub use tag::{Cell, Event, Tag};
-
-#[cfg(test)]
-mod tests;

@@ -182,6 +182,3 @@ pub fn read_image(alloc: Global, bytes: &[u8]) -> Result<Program, ImageFault>
 pub fn images_differ()
     ensures { (p q : ProgramValue) → IsProgram p → HasNumbers p → IsProgram q → HasNumbers q → image_of p ≡ image_of q → p ≡ q }
 {}
-
-#[cfg(test)]
-mod tests;
