@@ -19,8 +19,15 @@ const NO_STEPS_LOG: Content = Content::Hex(
     "4c4c4731 02 0001 cd76f743851e5d628d83f0d36718aea1600063245992e8e8a0cb1134d7692f8d 00000000 00000064 00000064 03 00000000 00000000 00000000 00000000 03 00000000 00000000 00000000 00000000 00000000",
 );
 
+// A thread that loads word 4,096, and its log under limits of 100.
+const BAD_ADDRESS: Content = Content::Hex("4c494d31 01 0001 0001 00000000 1101000000001000");
+
+const BAD_ADDRESS_LOG: Content = Content::Hex(
+    "4c4c4731 01 0001 5173cf25fc875f7359bd441aa99618716c16e676842abd5d8cbe4565bd3f134f 00000064 00000064 00000064 02 00001000 00000000 00000000 00000000 00000000",
+);
+
 // Programs that are recorded.
-pub static RECORDED: [Row; 3] = [
+pub static RECORDED: [Row; 4] = [
     Row {
         words: "record i l 10 10 10",
         files: &[("i", SMALLEST)],
@@ -42,6 +49,13 @@ pub static RECORDED: [Row; 3] = [
             "thread 0 steps-spent steps 0 instr 0/thread 1 steps-spent steps 0 instr 0/",
         ),
         after: &[("l", NO_STEPS_LOG)],
+        ..DONE
+    },
+    Row {
+        words: "record i l 100 100 100",
+        files: &[("i", BAD_ADDRESS)],
+        text: Content::Text("thread 0 bad-address 4096 steps 0 instr 0/"),
+        after: &[("l", BAD_ADDRESS_LOG)],
         ..DONE
     },
 ];

@@ -6,8 +6,13 @@ use super::rows::{DONE, Row};
 use light_top::Status;
 use machine::{ImageFault, ImageKind};
 
-// Images that are played; the last by the greatest limits, under a name of any kind.
-pub static PLAYED: [Row; 4] = [
+// A thread that loads and jumps back.
+const LOADS: Content = Content::Hex(
+    "4c494d31 01 0001 0002 00000000 1101000000000000 0d00000000000000",
+);
+
+// Images that are played: one by the greatest limits, under a name of any kind, and one until a million steps are spent.
+pub static PLAYED: [Row; 5] = [
     Row {
         words: "run i 10 10 10",
         files: &[("i", SMALLEST)],
@@ -32,6 +37,12 @@ pub static PLAYED: [Row; 4] = [
         words: "run -i 268435455 1073741824 16384",
         files: &[("-i", SMALLEST)],
         text: SMALLEST_TEXT,
+        ..DONE
+    },
+    Row {
+        words: "run i 1000000 1073741824 100",
+        files: &[("i", LOADS)],
+        text: Content::Text("thread 0 steps-spent steps 1000000 instr 2000000/"),
         ..DONE
     },
 ];
