@@ -23,6 +23,3 @@ pub use put_pieces::put_all;
 pub use sink::{Sink, SinkFault};
 pub use store::{Store, StoreFault};
 pub use tag::{Cell, Event, Tag};
-
-#[cfg(test)]
-mod tests;

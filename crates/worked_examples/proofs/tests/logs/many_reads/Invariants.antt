@@ -1,7 +1,7 @@
 use Rattle.std.proofs.Common.{◌<◌}
 use Rattle.dep_log.specs.AccessLogs.{RiseAbove}
 use Rattle.dep_log.proofs.AccessLogs.{last_step}
-use Rattle.dep_log.proofs.tests.many_reads.Given as goal
+use Rattle.worked_examples.proofs.tests.logs.many_reads.Given as goal
 
 abbrev pub invariant-loop-step : goal.invariant-loop-step
 invariant-loop-step l = record {

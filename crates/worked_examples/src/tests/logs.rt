@@ -1,9 +1,10 @@
+// The entries of a thread's accesses.
 ghost use Rattle.std.specs.Prelude.{◌≡◌, ◌≤◌, IfOk};
 ghost use Rattle.dep_log.specs.AccessLogs.{RiseAbove};
 
-use crate::{Entry, RunLog, ThreadLog, entries_of};
+use dep_log::{Entry, entries_of};
 use light_base::{Cell, Event, Memory, Tag};
-use machine::{Access, End, Limits};
+use machine::Access;
 use std::alloc::Global;
 use std::test::Fail;
 use std::time::{Duration, Instant};
@@ -20,17 +21,6 @@ fn read(step: u32, word: u16, tag: Tag) -> Access
     }
 }
 
-fn write(step: u32, word: u16) -> Access
-    ensures { result.step ≡ step }
-{
-    Access {
-        step,
-        word,
-        saw: None,
-        wrote: Some(7),
-    }
-}
-
 fn entry(word: u16, source: Tag, first: u32, last: u32) -> Entry {
     Entry {
         word,
@@ -38,14 +28,6 @@ fn entry(word: u16, source: Tag, first: u32, last: u32) -> Entry {
         first,
         last,
     }
-}
-
-#[test]
-fn a_thread_reads_what_it_wrote(rt: HostRuntime) -> Result<(), Fail> {
-    let own = Event { thread: 0, step: 1 }.tag();
-    let entries = entries_of(rt.alloc(), &[write(1, 0), read(2, 0, own)])?;
-    assert_eq!(rt; entries.as_slice(), [entry(0, own, 2, 2)].as_slice());
-    Ok(())
 }
 
 #[test]
@@ -65,29 +47,6 @@ fn one_entry_goes_round_another_read(rt: HostRuntime) -> Result<(), Fail> {
         entry(0, other, 7, 7),
     ];
     assert_eq!(rt; entries.as_slice(), wanted.as_slice());
-    Ok(())
-}
-
-#[test]
-fn a_run_log_has_its_parts(rt: HostRuntime) -> Result<(), Fail> {
-    let alloc = rt.alloc();
-    let own = Event { thread: 0, step: 1 }.tag();
-    let entries = Vec::from_slice(alloc, &[entry(0, own, 2, 2)])?;
-    let mut threads = Vec::new(alloc);
-    threads.push(ThreadLog::new(entries, 2, 4, End::Halted))?;
-    let finals = Vec::from_slice(alloc, &[own])?;
-    let limits = Limits::new(100, 200, 300).ok_or("no limits")?;
-    let mut log = RunLog::new([0; 32], limits, threads, finals);
-    log.set_digest([9; 32]);
-    assert_eq!(rt; log.digest(), &[9; 32]);
-    assert_eq!(rt; log.limits().instr(), 200);
-    assert_eq!(rt; log.finals(), [own].as_slice());
-    assert_eq!(rt; log.threads().len(), 1);
-    let thread = &log.threads()[0];
-    assert_eq!(rt; thread.entries(), [entry(0, own, 2, 2)].as_slice());
-    assert_eq!(rt; thread.steps(), 2);
-    assert_eq!(rt; thread.instr(), 4);
-    assert_eq!(rt; thread.end(), End::Halted);
     Ok(())
 }
 

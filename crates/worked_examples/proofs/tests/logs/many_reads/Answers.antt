@@ -1,7 +1,7 @@
 use Rattle.std.proofs.Common.{◌%◌, Some, None, arith}
 use Rattle.dep_log.specs.AccessLogs.{Access}
 use Rattle.dep_log.proofs.AccessLogs.{RiseAbove-push, last_step-push}
-use Rattle.dep_log.proofs.tests.many_reads.Goals as goal
+use Rattle.worked_examples.proofs.tests.logs.many_reads.Goals as goal
 
 pub loop-step-preserved : goal.loop-step-preserved
 loop-step-preserved c =

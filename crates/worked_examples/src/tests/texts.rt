@@ -1,5 +1,6 @@
 // Texts and what is answered, as tables. In a row a slash stands for the end of a line.
-use crate::{assemble, list};
+use super::programs::lines_of;
+use assembler::{assemble, list};
 use std::alloc::{AllocError, Global};
 use std::test::Fail;
 
@@ -157,14 +158,6 @@ const ACCEPTED: &str = "\
 .thread/halt/set r1 2/mov r3 r4/add r5 r6 r7/sub r8 r9 r10/mul r11 r12 r13/and r14 r15 r0/or r1 r2 r3/xor r4 r5 r6/shl r7 r8 r9/shr r10 r11 r12/addi r13 r14 15/jmp 16/jeq r1 r2 17/jne r3 r4 18/jlt r5 r6 19/out r7/load r8 r9 20/store r10 r11 21/xchg r12 r13 22/cas r14 r15 r0 23|.words 16/.thread/halt/set r1 2/mov r3 r4/add r5 r6 r7/sub r8 r9 r10/mul r11 r12 r13/and r14 r15 r0/or r1 r2 r3/xor r4 r5 r6/shl r7 r8 r9/shr r10 r11 r12/addi r13 r14 15/jmp 16/jeq r1 r2 17/jne r3 r4 18/jlt r5 r6 19/out r7/load r8 r9 20/store r10 r11 21/xchg r12 r13 22/cas r14 r15 r0 23/
 .thread/CAS R1 R2 R3 0x4/XcHg r1 r2 3/JMP Up/Up: jNe r1 r2 Up/JLT r1,r2,end/MOV r15 R0/sHR r1 r2 r3/end:|.words 16/.thread/cas r1 r2 r3 4/xchg r1 r2 3/jmp 3/jne r1 r2 3/jlt r1 r2 7/mov r15 r0/shr r1 r2 r3/";
 
-fn bytes_of(alloc: Global, row: &str) -> Result<Vec<u8>, AllocError> {
-    let mut bytes = Vec::new(alloc);
-    for b in row.as_bytes() {
-        bytes.push(if *b == b'/' { b'\n' } else { *b })?;
-    }
-    Ok(bytes)
-}
-
 // The line and the kind of the fault in the bytes; 0 and 0 where there is none.
 fn fault_in(alloc: Global, bytes: &[u8]) -> (u32, u8) {
     if bytes.len() >= 1_000_000 {
@@ -177,12 +170,12 @@ fn fault_in(alloc: Global, bytes: &[u8]) -> (u32, u8) {
 }
 
 #[test]
-fn faults_are_told(rt: HostRuntime) -> Result<(), Fail> {
+fn faults_of_texts_are_told(rt: HostRuntime) -> Result<(), Fail> {
     let alloc = rt.alloc();
     for row in REFUSED.split('\n') {
         let (line, rest) = row.split_once(' ').unwrap_or(("", ""));
         let (kind, text) = rest.split_once(' ').unwrap_or(("", ""));
-        let bytes = bytes_of(alloc, text)?;
+        let bytes = lines_of(alloc, text)?;
         let (at, what) = fault_in(alloc, &bytes);
         assert_eq!(rt; line.parse::<u32>(), Ok(at), "{row}");
         assert_eq!(rt; kind.parse::<u8>(), Ok(what), "{row}");
@@ -204,8 +197,8 @@ fn programs_are_listed(rt: HostRuntime) -> Result<(), Fail> {
     let alloc = rt.alloc();
     for row in ACCEPTED.split('\n') {
         let (text, canonical) = row.split_once('|').unwrap_or(("", ""));
-        let canonical = bytes_of(alloc, canonical)?;
-        for text in [bytes_of(alloc, text)?.as_slice(), canonical.as_slice()] {
+        let canonical = lines_of(alloc, canonical)?;
+        for text in [lines_of(alloc, text)?.as_slice(), canonical.as_slice()] {
             assert!(rt;
                 listed(alloc, text).is_some_and(|found| found.as_slice() == canonical.as_slice()),
                 "{row}"
@@ -225,18 +218,21 @@ fn long_thread(alloc: Global, count: u32, last: &[u8]) -> Result<Vec<u8>, AllocE
     Ok(bytes)
 }
 
+// What follows a thread of 4,096 instructions, and the line and the kind of the fault.
+static LAST_LINES: [(&str, (u32, u8)); 5] = [
+    ("end:", (0, 0)),
+    ("end: halt", (4_098, 8)),
+    ("end: set r1 4294967296", (4_098, 4)),
+    ("end: jeq r1 r1 no", (4_098, 7)),
+    ("end: halt 1", (4_098, 3)),
+];
+
 #[test]
 fn a_thread_is_not_too_long(rt: HostRuntime) -> Result<(), Fail> {
     let alloc = rt.alloc();
-    let most = long_thread(alloc, 4_096, b"end:")?;
-    assert_eq!(rt; fault_in(alloc, &most), (0, 0));
-    let more = long_thread(alloc, 4_096, b"end: halt")?;
-    assert_eq!(rt; fault_in(alloc, &more), (4_098, 8));
-    let number_first = long_thread(alloc, 4_096, b"end: set r1 4294967296")?;
-    assert_eq!(rt; fault_in(alloc, &number_first), (4_098, 4));
-    let undefined_first = long_thread(alloc, 4_096, b"end: jeq r1 r1 no")?;
-    assert_eq!(rt; fault_in(alloc, &undefined_first), (4_098, 7));
-    let operand_first = long_thread(alloc, 4_096, b"end: halt 1")?;
-    assert_eq!(rt; fault_in(alloc, &operand_first), (4_098, 3));
+    for (last, fault) in &LAST_LINES {
+        let text = long_thread(alloc, 4_096, last.as_bytes())?;
+        assert_eq!(rt; fault_in(alloc, &text), *fault, "{last}");
+    }
     Ok(())
 }
