@@ -13,8 +13,6 @@ mod operands;
 mod parts;
 mod registers;
 mod scope;
-#[cfg(test)]
-mod tests;
 mod text;
 mod words;
 

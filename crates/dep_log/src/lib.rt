@@ -9,6 +9,3 @@ pub use entries::entries_of;
 pub use replay_model::Entry;
 pub use run_log::RunLog;
 pub use thread_log::ThreadLog;
-
-#[cfg(test)]
-mod tests;

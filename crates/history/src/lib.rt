@@ -8,6 +8,3 @@ mod seat;
 
 pub use laws::{history_law, history_log_law};
 pub use plain::{Plain, Stepped};
-
-#[cfg(test)]
-mod tests;

@@ -8,6 +8,7 @@ mod mem_sink;
 mod mem_store;
 mod memory;
 mod put;
+mod put_pieces;
 mod sink;
 mod store;
 mod tag;
@@ -18,9 +19,7 @@ pub use mem_sink::MemSink;
 pub use mem_store::MemStore;
 pub use memory::Memory;
 pub use put::{put_u16, put_u32};
+pub use put_pieces::put_all;
 pub use sink::{Sink, SinkFault};
 pub use store::{Store, StoreFault};
 pub use tag::{Cell, Event, Tag};
-
-#[cfg(test)]
-mod tests;

@@ -1,5 +1,6 @@
 // A store over real files. It tells nothing of them.
-ghost use Rattle.std.specs.Prelude.{None, false, ◌≡◌, ◌≤◌, ◌<◌, ◌^◌, length, IfOk, IfErr, ◌+◌};
+ghost use Rattle.std.specs.Prelude.{None, false, ◌≡◌, ◌≤◌, ◌<◌, ◌^◌, length, IfOk, IfErr, IfSome, OnOk, ◌+◌};
+ghost use Rattle.std.specs.Io.KnownBytes.{Appends};
 ghost use Rattle.light_cli.specs.Reading.{ReadFails};
 
 use light_base::{Store, StoreFault};
@@ -25,10 +26,11 @@ impl<'a, R: Files> FileStore<'a, R> {
     }
 }
 
-// Reads to the end, unless there are more than `cap` bytes. A read between which a signal came is asked again.
-fn read_all<F: Read>(alloc: Global, file: &mut F, cap: u64) -> Result<Vec<u8>, StoreFault>
+/// All that a reader has left, where that is at most `cap` bytes. A read that a signal stopped is asked again.
+pub fn read_all<F: Read>(alloc: Global, file: &mut F, cap: u64) -> Result<Vec<u8>, StoreFault>
+    ensures all { IfOk result (λ bytes. IfSome (F.remaining file.old) (λ left. bytes.items ≡ left)) }
     ensures fits { IfOk result (λ bytes. length bytes.items ≤ cap) }
-    ensures cause { IfErr result (ReadFails cap) }
+    ensures cause { IfErr result (ReadFails (F.remaining file.old) cap) }
 {
     let mut bytes = Vec::new(alloc);
     let mut piece = [0u8; 4096];
@@ -51,6 +53,17 @@ fn read_all<F: Read>(alloc: Global, file: &mut F, cap: u64) -> Result<Vec<u8>, S
         }
     }
     Err(StoreFault::Failed)
+}
+
+// Writes all the bytes.
+fn write_whole<W: Write>(file: &mut W, bytes: &[u8]) -> Result<(), StoreFault>
+    ensures written { OnOk result (Appends (W.contents file.old) (W.contents file.new) bytes.now) }
+    ensures cause { IfErr result (λ fault. fault ≡ StoreFault.Failed) }
+{
+    match file.write_all(bytes) {
+        Ok(()) => Ok(()),
+        Err(_) => Err(StoreFault::Failed),
+    }
 }
 
 impl<R: Files> Store for FileStore<'_, R> {
@@ -76,16 +89,13 @@ impl<R: Files> Store for FileStore<'_, R> {
     }
 
     fn save(&mut self, name: &str, bytes: &[u8]) -> Result<(), StoreFault> {
-        let done = match fs::create(self.rt, name) {
-            Ok(mut file) => file.write_all(bytes),
-            Err(error) => Err(error),
+        let outcome = match fs::create(self.rt, name) {
+            Ok(mut file) => write_whole(&mut file, bytes),
+            Err(_) => Err(StoreFault::Failed),
         };
-        match done {
-            Ok(()) => Ok(()),
-            Err(_) => {
-                self.faults = self.faults.saturating_add(1);
-                Err(StoreFault::Failed)
-            }
+        if outcome.is_err() {
+            self.faults = self.faults.saturating_add(1);
         }
+        outcome
     }
 }

@@ -1,38 +1,22 @@
 //! The program: the commands over real files and standard output.
 #![tactic(auto)]
 
+mod ending;
 mod file_store;
 mod std_sink;
+mod words;
 
+use ending::{exit_code, tell};
 use file_store::FileStore;
-use light_top::{Status, light, status_text};
-use std::alloc::Global;
-use std::io::Write;
+use light_top::light;
+use std::env;
 use std::process::ExitCode;
-use std::{env, io};
 use std_sink::StdSink;
-
-// The words after the program's name. A word that is no text is no word of a command.
-fn words_of(rt: &HostRuntime, alloc: Global) -> Result<Vec<String>, Status> {
-    match env::args(rt) {
-        Ok(args) => args.skip(1).collect(alloc).map_err(|_| Status::Memory),
-        Err(error) => match error.kind() {
-            io::ErrorKind::OutOfMemory => Err(Status::Memory),
-            _ => Err(Status::Usage),
-        },
-    }
-}
-
-// Tells on standard error how a command ended that was not done. Nothing more can be done where that fails.
-fn tell(rt: &HostRuntime, alloc: Global, status: &Status) {
-    if let Ok(line) = status_text(alloc, status) {
-        let _ = rt.stderr().write_all(&line);
-    }
-}
+use words::words_of;
 
 fn main(rt: HostRuntime) -> ExitCode {
     let alloc = rt.alloc();
-    let status = match words_of(&rt, alloc) {
+    let status = match words_of(alloc, env::args(&rt)) {
         Ok(words) => {
             let mut store = FileStore::new(&rt);
             let mut out = StdSink::new(rt.stdout());
@@ -40,8 +24,9 @@ fn main(rt: HostRuntime) -> ExitCode {
         }
         Err(status) => status,
     };
-    tell(&rt, alloc, &status);
-    ExitCode::from(status.code())
+    // Nothing more can be done where the line isn't told.
+    let _ = tell(alloc, &mut StdSink::new(rt.stderr()), &status);
+    exit_code(&status)
 }
 
 #[cfg(test)]

@@ -1,5 +1,7 @@
-// A sink over any writer. It tells nothing of the bytes.
-ghost use Rattle.std.specs.Prelude.{None, ◌≡◌, ◌<◌, ◌≤◌, ◌^◌, length, IfSome};
+// A sink over any writer. It tells nothing of the bytes, but hands them to the writer.
+ghost use Rattle.std.specs.Prelude.{None, ◌≡◌, ◌<◌, ◌≤◌, ◌^◌, length, take, IfOk, IfErr, IfSome, IfNone, OnOk, OnErr};
+ghost use Rattle.std.specs.Io.KnownBytes.{Keeps, Appends};
+ghost use Rattle.light_base.specs.Taken.{PutFails};
 
 use light_base::{Sink, SinkFault};
 use std::io::{ErrorKind, Write};
@@ -15,15 +17,18 @@ pub struct StdSink<W> {
 impl<W> StdSink<W> {
     /// A sink over this writer, with no fault so far.
     pub fn new(writer: W) -> Self
-        ensures { result.faults ≡ 0 }
+        ensures writer { result.writer ≡ writer }
+        ensures faults { result.faults ≡ 0 }
     {
         StdSink { writer, faults: 0 }
     }
 }
 
-// One write of the piece, asked again where a signal came between. None where the writer fails, or takes no byte.
+// One write of the piece, asked again where a signal stopped it. None where the writer fails, or takes no byte.
 fn write_some<W: Write>(writer: &mut W, bytes: &[u8]) -> Option<usize>
-    ensures { IfSome result (λ count. (1 ≤ count) × (count ≤ length bytes.now)) }
+    ensures some { IfSome result (λ count. (1 ≤ count) × (count ≤ length bytes.now)) }
+    ensures written { IfSome result (λ count. Appends (W.contents writer.old) (W.contents writer.new) (take count bytes.now)) }
+    ensures kept { IfNone result (Keeps (W.contents writer.old) (W.contents writer.new)) }
 {
     for _ in 0..u64::MAX {
         match writer.write(bytes) {
@@ -44,7 +49,20 @@ impl<W: Write> Sink for StdSink<W> {
 
     ghost faults = { λ s. s.faults };
 
-    fn put(&mut self, bytes: &[u8]) -> Result<usize, SinkFault> {
+    fn put(&mut self, bytes: &[u8]) -> Result<usize, SinkFault>
+        requires { 0 < length bytes.now }
+        ensures some { IfOk result (λ count. 1 ≤ count) }
+        ensures within { IfOk result (λ count. count ≤ length bytes.now) }
+        ensures cause { IfErr result (PutFails self.old.faults self.new.faults) }
+
+        ensures faults { self.old.faults ≤ self.new.faults }
+        ensures quiet { OnOk result (self.new.faults ≡ self.old.faults) }
+        ensures counted { self.new.faults < 2 ^ 64 }
+
+        // What is said to be taken is what the writer got.
+        ensures written { IfOk result (λ count. Appends (W.contents self.old.writer) (W.contents self.new.writer) (take count bytes.now)) }
+        ensures kept { OnErr result (Keeps (W.contents self.old.writer) (W.contents self.new.writer)) }
+    {
         match write_some(&mut self.writer, bytes) {
             Some(count) => Ok(count),
             None => {

@@ -1,10 +1,14 @@
-// The edge on the real thing: files that are there and that are not, and a device that is full.
-use crate::file_store::FileStore;
+// The edge on the real thing: files that are there and that are not, a device that is full, and signals that come
+// between.
+use crate::ending::{exit_code, tell};
+use crate::file_store::{FileStore, read_all};
 use crate::std_sink::StdSink;
 use light_base::{Sink, SinkFault, Store, StoreFault};
 use light_top::{Status, light};
 use std::alloc::{AllocError, Global};
 use std::fs;
+use std::io::{self, ErrorKind, Read, Write};
+use std::process::ExitCode;
 use std::test::Fail;
 
 // A program of one thread that halts at once.
@@ -64,4 +68,73 @@ fn an_image_of_a_file_is_played(rt: HostRuntime) -> Result<(), Fail> {
         Status::SinkFault
     );
     Ok(())
+}
+
+// What gives and takes one byte a call, and at each second call is interrupted by a signal.
+#[derive(Drop)]
+struct Slow<F> {
+    inner: F,
+    interrupted: bool,
+}
+
+impl<F> Slow<F> {
+    fn new(inner: F) -> Self {
+        Slow {
+            inner,
+            interrupted: false,
+        }
+    }
+
+    fn interrupt(&mut self) -> io::Result<()> {
+        self.interrupted = !self.interrupted;
+        if self.interrupted {
+            return Err(io::Error::from(ErrorKind::Interrupted));
+        }
+        Ok(())
+    }
+}
+
+impl<F: Read> Read for Slow<F> {
+    fn read(&mut self, buf: &mut [u8]) -> io::Result<usize> {
+        self.interrupt()?;
+        let count = buf.len().min(1);
+        self.inner.read(&mut buf[..count])
+    }
+}
+
+impl<F: Write> Write for Slow<F> {
+    fn write(&mut self, buf: &[u8]) -> io::Result<usize> {
+        self.interrupt()?;
+        self.inner.write(&buf[..buf.len().min(1)])
+    }
+
+    fn flush(&mut self) -> io::Result<()> {
+        self.inner.flush()
+    }
+}
+
+#[test]
+fn what_a_signal_stopped_is_asked_again(rt: HostRuntime) -> Result<(), Fail> {
+    let alloc = rt.alloc();
+    let mut reader = Slow::new(SMALLEST.as_slice());
+    let bytes = read_all(alloc, &mut reader, 21);
+    assert!(rt; bytes.is_ok_and(|bytes| bytes.as_slice() == SMALLEST.as_slice()));
+    let mut sink = StdSink::new(Slow::new(fs::create(&rt, "slow.txt")?));
+    assert_eq!(rt; sink.put(b"text"), Ok(1));
+    assert_eq!(rt; tell(alloc, &mut sink, &Status::Usage), Ok(()));
+    let told = fs::read_to_string(&rt, "slow.txt")?;
+    assert_eq!(rt; told.as_str(), "tlight: usage\n");
+    Ok(())
+}
+
+#[test]
+fn the_program_ends_with_its_status(rt: HostRuntime) {
+    for (status, code) in [
+        (Status::Ok, 0),
+        (Status::Usage, 2),
+        (Status::SinkFault, 14),
+        (Status::Memory, 70),
+    ] {
+        assert_eq!(rt; exit_code(&status), ExitCode::from(code));
+    }
 }

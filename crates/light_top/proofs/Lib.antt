@@ -1,3 +1,2 @@
-pub mod PrintedFront
 pub mod Numbers
 pub mod Ending

@@ -2,19 +2,10 @@
 use Rattle.std.specs.Prelude.{◌≡◌, ◌<◌, ◌⊎◌, ℕ, IsTrue, List, ◌++◌, length, Option, IfSome, IsSomeAnd}
 use Rattle.light_base.specs.Causes.{Rose}
 use Rattle.light_base.specs.Files.{SameButAt}
-use Rattle.light_base.specs.Taken.{Appended}
 use Rattle.light_top.specs.Outputs.{Output}
 use Rattle.light_top.specs.Outside.{Outside, after}
 use Rattle.light_top.specs.declared.status.Status.{Status}
 use Rattle.light_top.specs.declared.status.Status.TheVariants as status
-
--- a front of the text was taken, and not all of it
-pub record TookFront (old new : Option (List ℕ)) (text : List ℕ) : Type 0 where
-  pub front : List ℕ
-  pub rest : List ℕ
-  pub left : 0 < length rest
-  pub split : text ≡ front ++ rest
-  pub taken : Appended old new front
 
 -- the file was saved, if there is one, and a front of the text was printed, but not all of it; the sink may have counted
 pub record IsHalfPrinted (output : Output) (old new : Outside) : Type 0 where

@@ -6,8 +6,7 @@ ghost use Rattle.light_top.specs.Delivery.{Delivered};
 
 use crate::Status;
 use crate::output::Output;
-use crate::print::print;
-use light_base::{Sink, SinkFault, Store, StoreFault};
+use light_base::{Sink, SinkFault, Store, StoreFault, put_all};
 
 /// Saves the file of an output, if it has one, and then prints the text.
 pub fn deliver<S: Store, K: Sink>(
@@ -25,7 +24,7 @@ pub fn deliver<S: Store, K: Sink>(
             Err(_) => return Err(Status::Memory),
         }
     }
-    match print(out, output.text.as_slice()) {
+    match put_all(out, output.text.as_slice()) {
         Ok(()) => Ok(()),
         Err(SinkFault::Failed) => Err(Status::SinkFault),
         Err(SinkFault::Memory) => Err(Status::Memory),

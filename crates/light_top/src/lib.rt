@@ -6,7 +6,6 @@ mod delivery;
 mod image;
 mod loading;
 mod output;
-mod print;
 mod status;
 mod task;
 mod top;

@@ -6,6 +6,3 @@ mod write;
 
 pub use digest::digest_of;
 pub use write::write_log;
-
-#[cfg(test)]
-mod tests;

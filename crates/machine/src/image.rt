@@ -188,6 +188,3 @@ pub fn image_law()
 pub fn images_differ()
     ensures { (p q : ProgramValue) → IsProgram p → HasNumbers p → IsProgram q → HasNumbers q → image_of p ≡ image_of q → p ≡ q }
 {}
-
-#[cfg(test)]
-mod tests;

@@ -105,6 +105,3 @@ pub fn write_image(alloc: Global, program: &Program) -> Result<Vec<u8>, Memory>
     put_codes(&mut out, program)?;
     Ok(out)
 }
-
-#[cfg(test)]
-mod tests;

@@ -8,6 +8,3 @@ mod turns;
 
 pub use recorded::Recorded;
 pub use turns::record_turns;
-
-#[cfg(test)]
-mod tests;

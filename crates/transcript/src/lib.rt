@@ -5,6 +5,3 @@ mod lines;
 mod text;
 
 pub use text::text_of;
-
-#[cfg(test)]
-mod tests;

@@ -1,7 +1,7 @@
 // Programs as text, recorded by an order of turns: the entries and the last tags of the log, and the transcript. The
 // expected values are worked out by hand, those of the last six by a model of the machine written apart from it.
-use assembler::assemble;
-use light_base::{Memory, Tag};
+use super::programs::{lines_of, program_of};
+use light_base::Tag;
 use machine::Limits;
 use recorder::{Recorded, record_turns};
 use replay_model::Entry;
@@ -164,6 +164,39 @@ const ONE_ENTRY: Row = Row {
     text: "thread 0 entries-full steps 2 instr 2/",
 };
 
+// The thread has one more instruction than it may finish.
+const INSTRUCTIONS_SPENT: Row = Row {
+    program: ".words 3/.init 0 1/.init 2 20/.thread/set r1 4294967295/out r1/set r1 10/out r1/jmp 4",
+    limits: (100, 5, 100),
+    order: &[],
+    entries: "/",
+    lasts: "initial;initial;initial;",
+    text: "thread 0 instr-spent steps 0 instr 5/out 4294967295/out 10/word 0 1/word 2 20/",
+};
+
+// A word is read twice before another one. Two pairs of word and writer are two entries, whatever the limit above that.
+const THREE_ALLOWED: Row = Row {
+    program: ".words 2/.thread/load r1 r0 0/load r3 r0 0/load r2 r0 1",
+    limits: (100, 100, 3),
+    order: &[],
+    entries: "0 initial 1 2;1 initial 3 3;/",
+    lasts: "initial;initial;",
+    text: "thread 0 halted steps 3 instr 3/",
+};
+
+const TWO_ALLOWED: Row = Row {
+    limits: (100, 100, 2),
+    ..THREE_ALLOWED
+};
+
+// One entry is full before the next read, also of the same word.
+const ONE_ALLOWED: Row = Row {
+    limits: (100, 100, 1),
+    entries: "0 initial 1 1;/",
+    text: "thread 0 entries-full steps 1 instr 1/",
+    ..THREE_ALLOWED
+};
+
 // Each operation on two registers, 7 and 35.
 const ARITHMETIC: Row = Row {
     program: ".words 1/.thread/set r1 7/set r2 35/add r3 r1 r2/out r3/sub r3 r1 r2/out r3/mul r3 r1 r2/out r3/and r3 r1 r2/out r3/or r3 r1 r2/out r3/xor r3 r1 r2/out r3/shl r3 r1 r2/out r3/shr r3 r1 r2/out r3/mov r4 r2/out r4",
@@ -244,7 +277,7 @@ const TORN_PAIR: Row = Row {
     text: "thread 0 halted steps 2 instr 3/thread 1 halted steps 2 instr 4/out 0/out 1/word 0 1/word 1 1/",
 };
 
-const ROWS: [Row; 22] = [
+static ROWS: [Row; 26] = [
     OWN_WRITE,
     INITIAL_VALUE,
     LOST_UPDATE,
@@ -259,6 +292,10 @@ const ROWS: [Row; 22] = [
     ENTRIES_BETWEEN,
     ADDRESSES,
     ONE_ENTRY,
+    INSTRUCTIONS_SPENT,
+    THREE_ALLOWED,
+    TWO_ALLOWED,
+    ONE_ALLOWED,
     ARITHMETIC,
     JUMPS,
     STORE_BUFFERING,
@@ -268,15 +305,6 @@ const ROWS: [Row; 22] = [
     ABA,
     TORN_PAIR,
 ];
-
-// The bytes of a text whose slashes end lines.
-fn lines_of(alloc: Global, text: &str) -> Result<Vec<u8>, AllocError> {
-    let mut bytes = Vec::new(alloc);
-    for b in text.as_bytes() {
-        bytes.push(if *b == b'/' { b'\n' } else { *b })?;
-    }
-    Ok(bytes)
-}
 
 fn source_of(alloc: Global, tag: Tag) -> Result<String, AllocError> {
     match tag.writer() {
@@ -313,9 +341,7 @@ fn lasts_of(alloc: Global, recorded: &Recorded) -> Result<String, AllocError> {
 }
 
 fn recorded(rt: &impl Abort, alloc: Global, row: &Row) -> Result<Recorded, Fail> {
-    let text = lines_of(alloc, row.program)?;
-    assert!(rt; text.len() < 1_000_000);
-    let program = assemble(alloc, &text).map_err(|_| Memory)?;
+    let program = program_of(rt, alloc, row.program)?;
     let (steps, instr, entries) = row.limits;
     let limits = Limits::new(steps, instr, entries).ok_or("these are limits")?;
     let count = program.threads_count();
@@ -323,11 +349,26 @@ fn recorded(rt: &impl Abort, alloc: Global, row: &Row) -> Result<Recorded, Fail>
     Ok(record_turns(alloc, &program, &limits, row.order)?)
 }
 
+// Whether the log tells of each thread's end what its report tells, and keeps the limits. No image is known to it yet.
+fn agrees(recorded: &Recorded, limits: (u32, u32, u32)) -> bool {
+    let log = recorded.log();
+    let kept = log.limits();
+    *log.digest() == [0; 32]
+        && (kept.steps(), kept.instr(), kept.entries()) == limits
+        && log.threads().len() == recorded.reports().len()
+        && log.threads().iter().zip(recorded.reports()).all(|(logged, report)| {
+            logged.end() == report.end()
+                && logged.steps() == report.steps()
+                && logged.instr() == report.instr()
+        })
+}
+
 #[test]
 fn programs_are_recorded_by_turns(rt: HostRuntime) -> Result<(), Fail> {
     let alloc = rt.alloc();
     for row in &ROWS {
         let recorded = recorded(&rt, alloc, row)?;
+        assert!(rt; agrees(&recorded, row.limits), "{}", row.program);
         assert_eq!(rt; entries_of(alloc, &recorded)?.as_str(), row.entries);
         if !row.lasts.is_empty() {
             assert_eq!(rt; lasts_of(alloc, &recorded)?.as_str(), row.lasts);

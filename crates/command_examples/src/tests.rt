@@ -1,0 +1,101 @@
+// What each command says and leaves, as tables of rows that one helper runs.
+use light_base::{MemSink, MemStore};
+use light_top::{Status, light, status_text};
+use std::test::Fail;
+
+mod contents;
+mod outputs;
+mod recordings;
+mod rows;
+mod runs;
+mod statuses;
+mod texts;
+mod usages;
+
+use contents::Content;
+use rows::{Row, check, words_of};
+
+#[test]
+fn commands_end_as_told(rt: HostRuntime) -> Result<(), Fail> {
+    let alloc = rt.alloc();
+    for table in [
+        runs::PLAYED.as_slice(),
+        runs::REFUSED.as_slice(),
+        runs::FAULTS.as_slice(),
+        recordings::RECORDED.as_slice(),
+        recordings::FAULTS.as_slice(),
+        texts::ASSEMBLED.as_slice(),
+        texts::LISTED.as_slice(),
+        texts::REFUSED.as_slice(),
+        texts::FAULTS.as_slice(),
+        outputs::OUTPUTS.as_slice(),
+    ] {
+        for row in table {
+            check(&rt, alloc, row)?;
+        }
+    }
+    Ok(())
+}
+
+#[test]
+fn words_that_are_no_command(rt: HostRuntime) -> Result<(), Fail> {
+    let alloc = rt.alloc();
+    for words in usages::USAGES {
+        let row = Row {
+            words,
+            ..usages::NO_COMMAND
+        };
+        check(&rt, alloc, &row)?;
+    }
+    let none: [String; 0] = [];
+    let mut store = MemStore::new(alloc, Vec::new(alloc));
+    let mut out = MemSink::new(alloc, 5, Vec::new(alloc));
+    assert_eq!(rt; light(alloc, &none, &mut store, &mut out), Status::Usage);
+    assert!(rt; out.taken().is_empty());
+    Ok(())
+}
+
+// The bytes before the put that fails are taken, and no others.
+#[test]
+fn texts_are_put_up_to_the_fault(rt: HostRuntime) -> Result<(), Fail> {
+    let alloc = rt.alloc();
+    for (line, text) in [
+        ("run i 1 1 1", contents::SMALLEST_TEXT),
+        ("list i", contents::SMALLEST_SOURCE),
+    ] {
+        let words = words_of(alloc, line)?;
+        let image = contents::bytes_of(alloc, contents::SMALLEST)?;
+        let text = contents::bytes_of(alloc, text)?;
+        for taken in 0..text.len() {
+            let mut store = MemStore::new(alloc, Vec::new(alloc));
+            store.put_file("i", &image)?;
+            let fail = taken as u64 + 1;
+            let mut out = MemSink::new(alloc, 1, Vec::from_slice(alloc, &[fail])?);
+            assert_eq!(rt;
+                light(alloc, &words, &mut store, &mut out),
+                Status::SinkFault
+            );
+            assert_eq!(rt; out.taken(), &text[..taken]);
+            assert!(rt; store.file("i") == Some(image.as_slice()));
+        }
+        let mut store = MemStore::new(alloc, Vec::new(alloc));
+        store.put_file("i", &image)?;
+        let after_all = text.len() as u64 + 1;
+        let mut out = MemSink::new(alloc, 1, Vec::from_slice(alloc, &[after_all])?);
+        assert_eq!(rt; light(alloc, &words, &mut store, &mut out), Status::Ok);
+        assert_eq!(rt; out.taken(), text.as_slice());
+    }
+    Ok(())
+}
+
+#[test]
+fn numbers_and_lines_of_statuses(rt: HostRuntime) -> Result<(), Fail> {
+    let alloc = rt.alloc();
+    for (status, code, line) in &statuses::STATUSES {
+        assert_eq!(rt; status.code(), *code);
+        let text = status_text(alloc, status)?;
+        let line = contents::bytes_of(alloc, Content::Text(line))?;
+        assert_eq!(rt; text.as_slice(), line.as_slice());
+    }
+    Ok(())
+}

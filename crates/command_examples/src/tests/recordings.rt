@@ -1,0 +1,90 @@
+// `record`: the log that is saved and the transcript that is printed. The digests are those of another program.
+use super::contents::{Content, LOST_UPDATE, OWN_WRITE_READ, SMALLEST, SMALLEST_TEXT};
+use super::rows::{DONE, Row};
+use light_top::Status;
+
+// The log of the smallest program under limits of 10.
+const SMALLEST_LOG_BYTES: &str =
+    "4c4c4731 01 0001 03c0797a3fa7c306a00ed5c26b8fc1a0cdcc1dfd5ace36b9d02276973157950b 0000000a 0000000a 0000000a 00 00000000 00000000 00000000 00000000 00000000";
+
+const SMALLEST_LOG: Content = Content::Hex(SMALLEST_LOG_BYTES);
+
+// The log of a thread that reads what it wrote, under limits of 100: one entry.
+const OWN_WRITE_READ_LOG: Content = Content::Hex(
+    "4c4c4731 01 0001 b4ccf6448bc45676a64744e28389f90c21d30e4190e9c413417dc0164e6fc1e5 00000064 00000064 00000064 00 00000000 00000002 00000004 00000001 10000001 0000 10000001 00000002 00000002",
+);
+
+// The log of two threads that may take no step.
+const NO_STEPS_LOG: Content = Content::Hex(
+    "4c4c4731 02 0001 cd76f743851e5d628d83f0d36718aea1600063245992e8e8a0cb1134d7692f8d 00000000 00000064 00000064 03 00000000 00000000 00000000 00000000 03 00000000 00000000 00000000 00000000 00000000",
+);
+
+// A thread that loads word 4,096, and its log under limits of 100.
+const BAD_ADDRESS: Content = Content::Hex("4c494d31 01 0001 0001 00000000 1101000000001000");
+
+const BAD_ADDRESS_LOG: Content = Content::Hex(
+    "4c4c4731 01 0001 5173cf25fc875f7359bd441aa99618716c16e676842abd5d8cbe4565bd3f134f 00000064 00000064 00000064 02 00001000 00000000 00000000 00000000 00000000",
+);
+
+// Programs that are recorded.
+pub static RECORDED: [Row; 4] = [
+    Row {
+        words: "record i l 10 10 10",
+        files: &[("i", SMALLEST)],
+        text: SMALLEST_TEXT,
+        after: &[("l", SMALLEST_LOG)],
+        ..DONE
+    },
+    Row {
+        words: "record i l 100 100 100",
+        files: &[("i", OWN_WRITE_READ), ("l", SMALLEST_LOG)],
+        text: Content::Text("thread 0 halted steps 2 instr 4/out 7/word 0 7/"),
+        after: &[("l", OWN_WRITE_READ_LOG)],
+        ..DONE
+    },
+    Row {
+        words: "record i l 0 100 100",
+        files: &[("i", LOST_UPDATE)],
+        text: Content::Text(
+            "thread 0 steps-spent steps 0 instr 0/thread 1 steps-spent steps 0 instr 0/",
+        ),
+        after: &[("l", NO_STEPS_LOG)],
+        ..DONE
+    },
+    Row {
+        words: "record i l 100 100 100",
+        files: &[("i", BAD_ADDRESS)],
+        text: Content::Text("thread 0 bad-address 4096 steps 0 instr 0/"),
+        after: &[("l", BAD_ADDRESS_LOG)],
+        ..DONE
+    },
+];
+
+// A save that fails leaves the first half of the log. Where the load fails there is none; where a put fails it is whole.
+pub static FAULTS: [Row; 3] = [
+    Row {
+        words: "record i l 10 10 10",
+        files: &[("i", SMALLEST)],
+        calls: &[2],
+        status: Status::StoreFault,
+        after: &[("l", Content::Sized(SMALLEST_LOG_BYTES, 36))],
+        ..DONE
+    },
+    Row {
+        words: "record i l 10 10 10",
+        files: &[("i", SMALLEST)],
+        calls: &[1],
+        status: Status::StoreFault,
+        after: &[("l", Content::Absent)],
+        ..DONE
+    },
+    Row {
+        words: "record i l 10 10 10",
+        files: &[("i", SMALLEST)],
+        puts: &[2],
+        status: Status::SinkFault,
+        text: Content::Text("threa"),
+        after: &[("l", SMALLEST_LOG)],
+        ..DONE
+    },
+];

@@ -1,0 +1,85 @@
+// A row of a table, and the helper that runs it.
+use super::contents::{Content, bytes_of};
+use light_base::{MemSink, MemStore};
+use light_top::{Status, light};
+use std::alloc::{AllocError, Global};
+use std::process::Abort;
+use std::test::Fail;
+
+// A command, the files that it finds, the calls of the store and the puts that fail, and how it ends: its status, what
+// it printed, and the files that changed. All other files stay.
+#[derive(Clone, Copy)]
+pub struct Row {
+    pub words: &'static str,
+    pub files: &'static [(&'static str, Content)],
+    pub calls: &'static [u64],
+    pub puts: &'static [u64],
+    pub status: Status,
+    pub text: Content,
+    pub after: &'static [(&'static str, Content)],
+}
+
+// What a row need not tell: nothing is there, nothing fails, nothing is printed and nothing changes.
+pub const DONE: Row = Row {
+    words: "",
+    files: &[],
+    calls: &[],
+    puts: &[],
+    status: Status::Ok,
+    text: Content::Text(""),
+    after: &[],
+};
+
+// The words of a line, with one space between two.
+pub fn words_of(alloc: Global, line: &str) -> Result<Vec<String>, AllocError> {
+    let mut all = Vec::new(alloc);
+    for word in line.split(' ') {
+        all.push(String::from_str(alloc, word)?)?;
+    }
+    Ok(all)
+}
+
+fn holds(
+    alloc: Global,
+    store: &MemStore,
+    name: &str,
+    content: Content,
+) -> Result<bool, AllocError> {
+    match content {
+        Content::Absent => Ok(store.file(name).is_none()),
+        _ => Ok(store.file(name) == Some(bytes_of(alloc, content)?.as_slice())),
+    }
+}
+
+// Runs a row's command, and looks at what it left. A put takes at most five bytes.
+pub fn check(rt: &impl Abort, alloc: Global, row: &Row) -> Result<(), Fail> {
+    let mut store = MemStore::new(alloc, Vec::from_slice(alloc, row.calls)?);
+    let mut out = MemSink::new(alloc, 5, Vec::from_slice(alloc, row.puts)?);
+    for (name, content) in row.files {
+        store.put_file(name, &bytes_of(alloc, *content)?)?;
+    }
+    let words = words_of(alloc, row.words)?;
+    let status = light(alloc, &words, &mut store, &mut out);
+    assert_eq!(rt; status, row.status, "{}", row.words);
+    let text = bytes_of(alloc, row.text)?;
+    assert!(rt; out.taken() == text.as_slice(), "{}", row.words);
+    for (name, content) in row.files {
+        if !row.after.iter().any(|(changed, _)| *changed == *name) {
+            assert!(rt;
+                holds(alloc, &store, name, *content)?,
+                "{} of {}",
+                name,
+                row.words
+            );
+        }
+    }
+    for (name, content) in row.after {
+        assert!(rt;
+            holds(alloc, &store, name, *content)?,
+            "{} of {}",
+            name,
+            row.words
+        );
+    }
+    Ok(())
+}

@@ -1,0 +1,30 @@
+// Each status, the number with which the program ends, and its line.
+use assembler::{AsmFault, AsmKind};
+use light_top::Status;
+use machine::{ImageFault, ImageKind};
+
+pub static STATUSES: [(Status, u8, &str); 8] = [
+    (Status::Ok, 0, ""),
+    (Status::Usage, 2, "light: usage/"),
+    (Status::StoreFault, 3, "light: store fault/"),
+    (Status::TooLong { taken: 8_388_609 }, 4, "light: too long/"),
+    (
+        Status::ImageRefused(ImageFault {
+            kind: ImageKind::Opcode,
+            thread: 14,
+            at: 4095,
+        }),
+        5,
+        "light: image refused kind 4 thread 14 at 4095/",
+    ),
+    (
+        Status::AsmRefused(AsmFault {
+            line: 3,
+            kind: AsmKind::Undefined,
+        }),
+        6,
+        "light: text refused line 3 kind 7/",
+    ),
+    (Status::SinkFault, 14, "light: output fault/"),
+    (Status::Memory, 70, "light: out of memory/"),
+];

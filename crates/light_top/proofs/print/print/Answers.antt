@@ -1,6 +1,0 @@
-use Rattle.light_top.proofs.PrintedFront.{printed_more}
-use Rattle.light_top.proofs.print.print.Goals as goal
-
-pub loop-rest-preserved : goal.loop-rest-preserved
-loop-rest-preserved g c =
-    printed_more _ _ _ _ _ _ _ c.loop-rest.rest.now _ c.in_ok-count.count c.loop-rest.invariant c.split_at.ensures.back c.in_ok-count.ensures.appended c.in_ok-count.ensures.quiet
