@@ -1,10 +1,11 @@
 -- What the files say of a command: the task that is to be done, or what stands in the way first.
-use Rattle.std.specs.Prelude.{◌≡◌, ℕ, ◌+◌, nat_lt, Bool, IsTrue, List, length, Option, None, Some, Result, Ok, Err, IfSome, if◌then◌else◌}
+use Rattle.std.specs.Prelude.{◌≡◌, ℕ, ◌+◌, nat_lt, ◌==◌, Bool, IsTrue, List, [], length, replicate, Option, None, Some, Result, Ok, Err, IfSome, if◌then◌else◌}
 use Rattle.std.specs.FinMap.{get}
 use Rattle.light_base.specs.Causes.{Rose}
 use Rattle.light_base.specs.FileMap.{Files}
 use Rattle.machine.specs.Programs.{ProgramValue}
-use Rattle.light_top.specs.Images.{ImageValue, as_image, as_text}
+use Rattle.machine.specs.Inputs.{InputsValue}
+use Rattle.light_top.specs.Images.{ImageValue, as_image, as_text, as_inputs}
 use Rattle.light_top.specs.Statuses.{most_bytes, IsRefusal}
 use Rattle.light_top.specs.declared.words.Command.{Command}
 use Rattle.light_top.specs.declared.words.Command.TheVariants as command
@@ -34,14 +35,28 @@ image_in files name = file_in files name >>= as_image
 abbrev pub text_in : Files → List ℕ → Result ProgramValue Status
 text_in files name = file_in files name >>= as_text
 
+-- as many input lists as the program has threads
+abbrev pub matched : ℕ → InputsValue → Result InputsValue Status
+matched threads inputs = if length inputs == threads then Ok inputs else Err (status.WrongInputs threads (length inputs))
+
+-- the inputs in the file of that name, and without one an empty list for each thread
+abbrev pub inputs_in : Files → Option (List ℕ) → ℕ → Result InputsValue Status
+inputs_in files None threads = Ok (replicate threads [])
+inputs_in files (Some name) threads = do
+  bytes ← file_in files name
+  inputs ← as_inputs bytes
+  matched threads inputs
+
 -- the task of a command
 abbrev pub given : Command → Files → Result Task Status
-given (command.Run image limits) files = do
+given (command.Run image limits inputs) files = do
   i ← image_in files image
-  Ok (task.Play i limits)
-given (command.Record image log limits) files = do
+  numbers ← inputs_in files inputs (length i.program.threads)
+  Ok (task.Play i limits numbers)
+given (command.Record image log limits inputs) files = do
   i ← image_in files image
-  Ok (task.Record i log limits)
+  numbers ← inputs_in files inputs (length i.program.threads)
+  Ok (task.Record i log limits numbers)
 given (command.Asm text image) files = do
   program ← text_in files text
   Ok (task.Assemble program image)

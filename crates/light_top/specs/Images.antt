@@ -1,7 +1,9 @@
--- Images that are read, and texts that are assembled.
+-- Images and inputs that are read, and texts that are assembled.
 use Rattle.std.specs.Prelude.{ℕ, List, Result, Ok, Err}
 use Rattle.machine.specs.declared.image_fault.ImageFault.{ImageFault}
+use Rattle.machine.specs.declared.inputs.InputFault.{InputFault}
 use Rattle.machine.specs.Programs.{ProgramValue}
+use Rattle.machine.specs.Inputs.{InputsValue}
 use Rattle.machine.specs.ImageReading.{image_read}
 use Rattle.assembler.specs.declared.asm_fault.AsmFault.{AsmFault}
 use Rattle.assembler.specs.Assembled.{assembled}
@@ -28,3 +30,11 @@ program_or_fault (Err fault) = Err (status.AsmRefused fault)
 
 abbrev pub as_text : List ℕ → Result ProgramValue Status
 as_text text = program_or_fault (assembled text)
+
+-- the inputs that bytes spell, or their first fault
+abbrev pub inputs_or_fault : Result InputsValue InputFault → Result InputsValue Status
+inputs_or_fault (Ok inputs) = Ok inputs
+inputs_or_fault (Err fault) = Err (status.InputRefused fault)
+
+abbrev pub as_inputs : List ℕ → Result InputsValue Status
+as_inputs bytes = inputs_or_fault (inputs_read bytes)

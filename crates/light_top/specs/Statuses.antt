@@ -17,6 +17,8 @@ code_of (status.TooLong taken) = 4
 code_of (status.ImageRefused fault) = 5
 code_of (status.AsmRefused fault) = 6
 code_of status.SinkFault = 14
+code_of (status.InputRefused fault) = 15
+code_of (status.WrongInputs program inputs) = 16
 code_of status.Memory = 70
 
 -- an image was refused: kind K thread T at A
@@ -28,6 +30,10 @@ refusal_line kind thread at =
 abbrev pub text_line : ℕ → ℕ → List ℕ
 text_line line kind = codes "light: text refused" ++ (codes " line " ++ decimal line) ++ (codes " kind " ++ decimal kind) ++ 10 ∷ []
 
+-- inputs were refused: kind K
+abbrev pub input_line : ℕ → List ℕ
+input_line kind = codes "light: inputs refused" ++ (codes " kind " ++ decimal kind) ++ 10 ∷ []
+
 -- what is told of a status
 abbrev pub status_line : Status → List ℕ
 status_line status.Ok = []
@@ -37,6 +43,8 @@ status_line (status.TooLong taken) = codes "light: too long" ++ 10 ∷ []
 status_line (status.ImageRefused fault) = refusal_line (number_of_kind fault.kind) fault.thread fault.at
 status_line (status.AsmRefused fault) = text_line fault.line (number_of_asm_kind fault.kind)
 status_line status.SinkFault = codes "light: output fault" ++ 10 ∷ []
+status_line (status.InputRefused fault) = input_line (number_of_input_kind fault.kind)
+status_line (status.WrongInputs program inputs) = codes "light: wrong inputs" ++ 10 ∷ []
 status_line status.Memory = codes "light: out of memory" ++ 10 ∷ []
 
 -- the most bytes of a file that is loaded
@@ -48,6 +56,8 @@ abbrev pub IsRefusal : Status → Type 0
 IsRefusal (status.TooLong taken) = taken ≡ most_bytes + 1
 IsRefusal (status.ImageRefused fault) = fault.kind ≢ kind.Memory
 IsRefusal (status.AsmRefused fault) = fault.kind ≢ asm_kind.Memory
+IsRefusal (status.InputRefused fault) = fault.kind ≢ input_kind.Memory
+IsRefusal (status.WrongInputs program inputs) = program ≢ inputs
 IsRefusal s = ⊥
 
 -- the status of a command that was done, or refused

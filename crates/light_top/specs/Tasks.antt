@@ -1,5 +1,5 @@
 -- What each task means: what is printed and saved where it is done.
-use Rattle.std.specs.Prelude.{◌≡◌, List, ℕ, []}
+use Rattle.std.specs.Prelude.{◌≡◌, List, ℕ, length}
 use Rattle.sha2.specs.Sha256.{sha256}
 use Rattle.machine.specs.Images.{IsImage}
 use Rattle.machine.specs.Runs.{rounds_of}
@@ -11,14 +11,20 @@ use Rattle.light_top.specs.Outputs.{Output, printed, printed_and_saved, saved}
 use Rattle.light_top.specs.declared.task.Task.{Task}
 use Rattle.light_top.specs.declared.task.Task.TheVariants as task
 
+-- the inputs have a list for each thread of the program that they are for
+abbrev pub IsMatched : Task → Type 0
+IsMatched (task.Play image limits inputs) = length inputs ≡ length image.program.threads
+IsMatched (task.Record image log limits inputs) = length inputs ≡ length image.program.threads
+IsMatched _ = Unit {0}
+
 abbrev pub Means : Task → Output → Type 0
--- the transcript of the program's threads taking turns in rounds
-Means (task.Play image limits) output =
-    IsImage image.bytes image.program × (output ≡ printed (transcript_of image.program limits (rounds_of image.program limits)))
+-- the transcript of the program's threads taking turns in rounds, with these inputs
+Means (task.Play image limits inputs) output =
+    IsImage image.bytes image.program × (output ≡ printed (transcript_of image.program limits inputs (rounds_of image.program limits inputs)))
 -- this transcript, and the log of this very history, with the image's digest
-Means (task.Record image log limits) output = IsImage image.bytes image.program ×
-    (output ≡ printed_and_saved (transcript_of image.program limits (rounds_of image.program limits)) log
-    (spelling (log_of_history image.program limits (sha256 image.bytes) (rounds_of image.program limits))))
+Means (task.Record image log limits inputs) output = IsImage image.bytes image.program ×
+    (output ≡ printed_and_saved (transcript_of image.program limits inputs (rounds_of image.program limits inputs)) log
+    (spelling (log_of_history image.program limits inputs (sha256 image.bytes) (rounds_of image.program limits inputs))))
 -- the image of the program
 Means (task.Assemble program image) output = (bytes : List ℕ) × IsImage bytes program × (output ≡ saved image bytes)
 -- the canonical text of the program

@@ -39,21 +39,31 @@ limits_of steps instr entries = do
   e ← number_of 16384 entries
   Some (record { steps = s; instr = i; entries = e })
 
--- IMAGE STEPS INSTR ENTRIES
+-- nothing, or INPUTS
+abbrev pub inputs_of : List (List ℕ) → Option (Option (List ℕ))
+inputs_of [] = Some None
+inputs_of (inputs ∷ []) = do
+  inputs ← name_of inputs
+  Some (Some inputs)
+inputs_of _ = None
+
+-- IMAGE STEPS INSTR ENTRIES, or these and INPUTS
 abbrev pub run_of : List (List ℕ) → Option Command
-run_of (image ∷ steps ∷ instr ∷ entries ∷ []) = do
+run_of (image ∷ steps ∷ instr ∷ entries ∷ rest) = do
   image ← name_of image
   limits ← limits_of steps instr entries
-  Some (command.Run image limits)
+  inputs ← inputs_of rest
+  Some (command.Run image limits inputs)
 run_of _ = None
 
--- IMAGE LOG STEPS INSTR ENTRIES
+-- IMAGE LOG STEPS INSTR ENTRIES, or these and INPUTS
 abbrev pub record_of : List (List ℕ) → Option Command
-record_of (image ∷ log ∷ steps ∷ instr ∷ entries ∷ []) = do
+record_of (image ∷ log ∷ steps ∷ instr ∷ entries ∷ rest) = do
   image ← name_of image
   log ← name_of log
   limits ← limits_of steps instr entries
-  Some (command.Record image log limits)
+  inputs ← inputs_of rest
+  Some (command.Record image log limits inputs)
 record_of _ = None
 
 -- TEXT IMAGE

@@ -1,8 +1,9 @@
 // What the files of a command are read as, before anything is done.
 ghost use Rattle.std.specs.Prelude.{◌≡◌, ◌≤◌, length, Ok, OnOk, IfOk, IfErr};
 ghost use Rattle.light_top.specs.Statuses.{most_bytes};
-ghost use Rattle.light_top.specs.Images.{as_text};
-ghost use Rattle.light_top.specs.Given.{file_in, image_in, text_in, given, Gives, NotRead, NotGiven};
+ghost use Rattle.light_top.specs.Images.{as_text, as_inputs};
+ghost use Rattle.light_top.specs.Tasks.{IsMatched};
+ghost use Rattle.light_top.specs.Given.{file_in, image_in, text_in, inputs_in, matched, given, Gives, NotRead, NotGiven};
 
 use crate::Status;
 use crate::bytes::Bytes;
@@ -10,8 +11,8 @@ use crate::image::Image;
 use crate::task::Task;
 use crate::words::{Command, Name};
 use assembler::{AsmFault, AsmKind, assemble};
-use light_base::{Store, StoreFault};
-use machine::Program;
+use light_base::{Memory, Store, StoreFault};
+use machine::{InputFault, InputKind, Inputs, Program, read_inputs};
 use std::alloc::Global;
 
 /// The most bytes of a file that is loaded.
@@ -79,6 +80,70 @@ fn load_text<S: Store>(alloc: Global, store: &mut S, name: &Name<'_>) -> Result<
     assemble_text(alloc, bytes.as_slice())
 }
 
+// The inputs that bytes spell.
+fn read_numbers(alloc: Global, bytes: &[u8]) -> Result<Inputs, Status>
+    ensures ok { IfOk result (λ inputs. as_inputs bytes.now ≡ Ok inputs) }
+    ensures err { IfErr result (NotRead (as_inputs bytes.now)) }
+{
+    match read_inputs(alloc, bytes) {
+        Ok(inputs) => Ok(inputs),
+        Err(
+            InputFault {
+                kind: InputKind::Memory,
+            },
+        ) => Err(Status::Memory),
+        Err(fault) => Err(Status::InputRefused(fault)),
+    }
+}
+
+// As many input lists as a program has threads.
+fn matched(inputs: Inputs, threads: usize) -> Result<Inputs, Status>
+    requires { threads ≤ 15 }
+    ensures ok { IfOk result (λ inputs. matched threads inputs ≡ Ok inputs) }
+    ensures err { IfErr result (NotRead (matched threads inputs)) }
+    ensures same { IfOk result (λ inputs. length inputs ≡ threads) }
+{
+    let lists = inputs.threads_count();
+    if lists == threads {
+        Ok(inputs)
+    } else {
+        Err(Status::WrongInputs {
+            program: threads as u8,
+            inputs: lists as u8,
+        })
+    }
+}
+
+// The inputs in a file; without a name, an empty list for each of so many threads.
+fn load_inputs<S: Store>(
+    alloc: Global,
+    store: &mut S,
+    name: &Option<Name<'_>>,
+    threads: usize,
+) -> Result<Inputs, Status>
+    requires some { 1 ≤ threads }
+    requires most { threads ≤ 15 }
+    ensures ok { IfOk result (Gives (S.files store.old) (λ files. inputs_in files name.now threads)) }
+    ensures err { IfErr result (NotGiven (S.files store.old) (S.sound store.old) (S.faults store.old) (S.faults store.new) (λ files. inputs_in files name.now threads)) }
+    ensures same { IfOk result (λ inputs. length inputs ≡ threads) }
+
+    ensures files { S.files store.new ≡ S.files store.old }
+    ensures sound { S.sound store.new ≡ S.sound store.old }
+    ensures quiet { OnOk result (S.faults store.new ≡ S.faults store.old) }
+{
+    match name {
+        Some(name) => {
+            let bytes = load(alloc, store, name)?;
+            let inputs = read_numbers(alloc, bytes.as_slice())?;
+            matched(inputs, threads)
+        }
+        None => match Inputs::none(alloc, threads as u8) {
+            Ok(inputs) => Ok(inputs),
+            Err(Memory) => Err(Status::Memory),
+        },
+    }
+}
+
 /// Loads what a command names, and reads it: the task that is to be done. The files stay as they are.
 pub fn take_up<'a, S: Store>(
     alloc: Global,
@@ -86,6 +151,7 @@ pub fn take_up<'a, S: Store>(
     command: Command<'a>,
 ) -> Result<Task<'a>, Status>
     ensures ok { IfOk result (Gives (S.files store.old) (given command.entry)) }
+    ensures matched { IfOk result IsMatched }
     ensures err { IfErr result (NotGiven (S.files store.old) (S.sound store.old) (S.faults store.old) (S.faults store.new) (given command.entry)) }
 
     ensures files { S.files store.new ≡ S.files store.old }
@@ -93,13 +159,35 @@ pub fn take_up<'a, S: Store>(
     ensures quiet { OnOk result (S.faults store.new ≡ S.faults store.old) }
 {
     match command {
-        Command::Run { image, limits } => {
+        Command::Run {
+            image,
+            limits,
+            inputs,
+        } => {
             let image = load_image(alloc, store, &image)?;
-            Ok(Task::Play { image, limits })
+            let threads = image.program().threads_count();
+            let inputs = load_inputs(alloc, store, &inputs, threads)?;
+            Ok(Task::Play {
+                image,
+                limits,
+                inputs,
+            })
         }
-        Command::Record { image, log, limits } => {
+        Command::Record {
+            image,
+            log,
+            limits,
+            inputs,
+        } => {
             let image = load_image(alloc, store, &image)?;
-            Ok(Task::Record { image, log, limits })
+            let threads = image.program().threads_count();
+            let inputs = load_inputs(alloc, store, &inputs, threads)?;
+            Ok(Task::Record {
+                image,
+                log,
+                limits,
+                inputs,
+            })
         }
         Command::Asm { text, image } => {
             let program = load_text(alloc, store, &text)?;

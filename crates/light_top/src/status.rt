@@ -1,10 +1,10 @@
 // How a command ends, as a number and as a line of text.
 ghost use Rattle.std.specs.Prelude.{◌≡◌, IfOk, OnOk, ◌++◌, decimal};
-ghost use Rattle.light_top.specs.Statuses.{code_of, status_line, refusal_line, text_line};
+ghost use Rattle.light_top.specs.Statuses.{code_of, status_line, refusal_line, text_line, input_line};
 
 use assembler::AsmFault;
 use light_base::{Memory, put_decimal};
-use machine::ImageFault;
+use machine::{ImageFault, InputFault};
 use std::alloc::Global;
 
 #[derive(Clone, Copy, Debug, PartialEq, Eq)]
@@ -23,6 +23,10 @@ pub enum Status {
     AsmRefused(AsmFault),
     /// The sink counted a fault.
     SinkFault,
+    /// The bytes are no inputs, and this is the first fault.
+    InputRefused(InputFault),
+    /// The program has so many threads, and the inputs so many lists, which is another number.
+    WrongInputs { program: u8, inputs: u8 },
     /// A request for memory was refused.
     Memory,
 }
@@ -40,6 +44,8 @@ impl Status {
             Status::ImageRefused(_) => 5,
             Status::AsmRefused(_) => 6,
             Status::SinkFault => 14,
+            Status::InputRefused(_) => 15,
+            Status::WrongInputs { .. } => 16,
             Status::Memory => 70,
         }
     }
@@ -84,6 +90,15 @@ fn put_text_refusal(text: &mut Vec<u8>, line: u64, kind: u64) -> Result<(), Memo
     Ok(())
 }
 
+fn put_input_refusal(text: &mut Vec<u8>, kind: u64) -> Result<(), Memory>
+    ensures { OnOk result (text.new.items ≡ text.old.items ++ input_line kind) }
+{
+    text.extend_from_slice(b"light: inputs refused")?;
+    put_field(text, b" kind ", kind)?;
+    text.push(b'\n')?;
+    Ok(())
+}
+
 /// The line that tells of a status, with its line feed. Of `Ok` nothing is told.
 pub fn status_text(alloc: Global, status: &Status) -> Result<Vec<u8>, Memory>
     ensures { IfOk result (λ text. text.items ≡ status_line status.now) }
@@ -108,6 +123,10 @@ pub fn status_text(alloc: Global, status: &Status) -> Result<Vec<u8>, Memory>
             put_text_refusal(&mut text, u64::from(fault.line), kind)?
         }
         Status::SinkFault => text.extend_from_slice(b"light: output fault\n")?,
+        Status::InputRefused(fault) => {
+            put_input_refusal(&mut text, u64::from(fault.kind.code()))?
+        }
+        Status::WrongInputs { .. } => text.extend_from_slice(b"light: wrong inputs\n")?,
         Status::Memory => text.extend_from_slice(b"light: out of memory\n")?,
     }
     Ok(text)

@@ -1,11 +1,11 @@
 // Tasks: what is done of values alone, once all that a command names was loaded and read.
-ghost use Rattle.std.specs.Prelude.{◌≡◌, IfOk, [], Some};
+ghost use Rattle.std.specs.Prelude.{◌≡◌, length, IfOk};
 ghost use Rattle.sha2.specs.Sha256.{sha256};
 ghost use Rattle.machine.specs.Runs.{rounds_of};
 ghost use Rattle.history.specs.HistoryLogs.{log_of_history};
 ghost use Rattle.log_file.specs.Spelling.{spelling};
 ghost use Rattle.transcript.specs.Transcripts.{transcript_of};
-ghost use Rattle.light_top.specs.Tasks.{Means};
+ghost use Rattle.light_top.specs.Tasks.{IsMatched, Means};
 
 use crate::bytes::Bytes;
 use crate::image::Image;
@@ -14,7 +14,7 @@ use crate::words::Name;
 use history::Plain;
 use light_base::Memory;
 use log_file::{digest_of, write_log};
-use machine::{Limits, Program, write_image};
+use machine::{Inputs, Limits, Program, write_image};
 use recorder::record_turns;
 use std::alloc::Global;
 use transcript::text_of;
@@ -26,12 +26,14 @@ pub enum Task<'a> {
     Play {
         image: Image,
         limits: Limits,
+        inputs: Inputs,
     },
     /// To play it so, and to save the log.
     Record {
         image: Image,
         log: Name<'a>,
         limits: Limits,
+        inputs: Inputs,
     },
     /// To save the image of a program.
     Assemble {
@@ -45,10 +47,16 @@ pub enum Task<'a> {
 }
 
 // The transcript of a program whose threads take turns in rounds.
-fn play(alloc: Global, program: &Program, limits: Limits) -> Result<Bytes, Memory>
-    ensures { IfOk result (λ text. text ≡ transcript_of program.now limits (rounds_of program.now limits)) }
+fn play(
+    alloc: Global,
+    program: &Program,
+    limits: Limits,
+    inputs: &Inputs,
+) -> Result<Bytes, Memory>
+    requires { length inputs.now ≡ length program.now.threads }
+    ensures { IfOk result (λ text. text ≡ transcript_of program.now limits inputs.now (rounds_of program.now limits inputs.now)) }
 {
-    let mut plain = Plain::new(alloc, program, limits)?;
+    let mut plain = Plain::new(alloc, program, limits, inputs)?;
     plain.turns()?;
     let finals = plain.values()?;
     let reports = plain.into_reports()?;
@@ -61,12 +69,14 @@ fn record(
     alloc: Global,
     program: &Program,
     limits: &Limits,
+    inputs: &Inputs,
     image: &[u8],
 ) -> Result<(Bytes, Bytes), Memory>
-    ensures text { IfOk result (λ made. made.0 ≡ transcript_of program.now limits.now (rounds_of program.now limits.now)) }
-    ensures log { IfOk result (λ made. made.1 ≡ spelling (log_of_history program.now limits.now (sha256 image.now) (rounds_of program.now limits.now))) }
+    requires { length inputs.now ≡ length program.now.threads }
+    ensures text { IfOk result (λ made. made.0 ≡ transcript_of program.now limits.now inputs.now (rounds_of program.now limits.now inputs.now)) }
+    ensures log { IfOk result (λ made. made.1 ≡ spelling (log_of_history program.now limits.now inputs.now (sha256 image.now) (rounds_of program.now limits.now inputs.now))) }
 {
-    let recorded = record_turns(alloc, program, limits, &[])?;
+    let recorded = record_turns(alloc, program, limits, inputs, &[])?;
     let (mut log, reports, finals) = recorded.into_parts();
     log.set_digest(digest_of(image));
     let saved = write_log(alloc, &log)?;
@@ -76,15 +86,25 @@ fn record(
 
 /// Does a task.
 pub fn perform<'a>(alloc: Global, task: Task<'a>) -> Result<Output<'a>, Memory>
+    requires { IsMatched task.entry }
     ensures { IfOk result (Means task.entry) }
 {
     match task {
-        Task::Play { image, limits } => {
-            let text = play(alloc, image.program(), limits)?;
+        Task::Play {
+            image,
+            limits,
+            inputs,
+        } => {
+            let text = play(alloc, image.program(), limits, &inputs)?;
             Ok(Output { text, saved: None })
         }
-        Task::Record { image, log, limits } => {
-            let (text, bytes) = record(alloc, image.program(), &limits, image.bytes())?;
+        Task::Record {
+            image,
+            log,
+            limits,
+            inputs,
+        } => {
+            let (text, bytes) = record(alloc, image.program(), &limits, &inputs, image.bytes())?;
             Ok(Output {
                 text,
                 saved: Some(Saved { name: log, bytes }),

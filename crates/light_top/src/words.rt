@@ -1,6 +1,6 @@
 // The words of the command line.
 ghost use Rattle.std.specs.Prelude.{◌≡◌, ◌<◌, ◌^◌};
-ghost use Rattle.light_top.specs.Words.{is_plain, number_of, name_of, limits_of, texts, run_of, record_of, asm_of, list_of, command_of};
+ghost use Rattle.light_top.specs.Words.{is_plain, number_of, name_of, limits_of, inputs_of, texts, run_of, record_of, asm_of, list_of, command_of};
 
 use machine::Limits;
 use std::marker::Model;
@@ -40,16 +40,18 @@ impl<'a> Name<'a> {
 /// A command with its words read.
 #[derive(Drop)]
 pub enum Command<'a> {
-    /// Plays the program of an image by turns.
+    /// Plays the program of an image by turns. Without inputs, all input lists are empty.
     Run {
         image: Name<'a>,
         limits: Limits,
+        inputs: Option<Name<'a>>,
     },
     /// Plays it so, and saves the log.
     Record {
         image: Name<'a>,
         log: Name<'a>,
         limits: Limits,
+        inputs: Option<Name<'a>>,
     },
     /// Saves the image of the program that a text says.
     Asm {
@@ -95,13 +97,25 @@ fn limits(steps: &str, instr: &str, entries: &str) -> Option<Limits>
     Limits::new(steps, instr, entries)
 }
 
+// The names of inputs that these words are: none, or one.
+fn inputs<'a>(words: &'a [String]) -> Option<Option<Name<'a>>>
+    ensures { result ≡ inputs_of (texts words.now) }
+{
+    match words {
+        [] => Some(None),
+        [inputs] => Some(Some(Name::of(inputs.as_str())?)),
+        _ => None,
+    }
+}
+
 fn run<'a>(words: &'a [String]) -> Option<Command<'a>>
     ensures { result ≡ run_of (texts words.now) }
 {
     match words {
-        [image, steps, instr, entries] => Some(Command::Run {
+        [image, steps, instr, entries, rest @ ..] => Some(Command::Run {
             image: Name::of(image.as_str())?,
             limits: limits(steps.as_str(), instr.as_str(), entries.as_str())?,
+            inputs: inputs(rest)?,
         }),
         _ => None,
     }
@@ -111,10 +125,11 @@ fn record<'a>(words: &'a [String]) -> Option<Command<'a>>
     ensures { result ≡ record_of (texts words.now) }
 {
     match words {
-        [image, log, steps, instr, entries] => Some(Command::Record {
+        [image, log, steps, instr, entries, rest @ ..] => Some(Command::Record {
             image: Name::of(image.as_str())?,
             log: Name::of(log.as_str())?,
             limits: limits(steps.as_str(), instr.as_str(), entries.as_str())?,
+            inputs: inputs(rest)?,
         }),
         _ => None,
     }

@@ -46,7 +46,7 @@ word_lines w (value ∷ values) = (if value == 0 then [] else word_line w value)
 unfoldable pub transcript : List Report → List ℕ → List ℕ
 transcript reports finals = thread_lines 0 reports ++ word_lines 0 finals
 
--- the transcript of a history of a program
-abbrev pub transcript_of : ProgramValue → LimitsValue → List ℕ → List ℕ
-transcript_of p limits history =
-    transcript (reports_of p limits (world_after p limits history)) (values_of (world_after p limits history))
+-- the transcript of a history of a program with its inputs
+abbrev pub transcript_of : ProgramValue → LimitsValue → InputsValue → List ℕ → List ℕ
+transcript_of p limits inputs history =
+    transcript (reports_of p limits inputs (world_after p limits inputs history)) (values_of (world_after p limits inputs history))
