@@ -12,6 +12,7 @@ pub mod ImageSteps
 pub mod ImageNumbers
 pub mod ImageInstrs
 pub mod Keeping
+pub mod Taking
 pub mod ImageLaws
 pub mod ImageWriting
 pub mod ImageExamples

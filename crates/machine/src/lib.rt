@@ -12,6 +12,6 @@ pub use crate::cores::{Core, RunReport};
 pub use crate::image::{image_law, images_differ, read_image};
 pub use crate::image_fault::{ImageFault, ImageKind};
 pub use crate::image_writing::write_image;
-pub use crate::laws::machine_law;
+pub use crate::laws::{input_law, machine_law};
 pub use crate::program::{Instr, Limits, OPS, Op, Program};
 pub use replay_model::{Access, End, Want};
