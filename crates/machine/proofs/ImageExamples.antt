@@ -3,7 +3,8 @@ use Rattle.std.proofs.Common.{◌≡◌, ℕ, List, [], ◌∷◌, Ok, refl}
 use Rattle.machine.specs.Programs.{Instr, ProgramValue}
 use Rattle.machine.specs.declared.program.Op.TheVariants as op
 use Rattle.machine.specs.Images.{image_of}
-use Rattle.machine.specs.ImageReading.{numbers_at, words_in, lengths_in, counts_fault, lengths_fault, instr_at, code_at, codes_at, body_of, image_read}
+use Rattle.machine.specs.Reading.{numbers_at}
+use Rattle.machine.specs.ImageReading.{words_in, lengths_in, counts_fault, lengths_fault, instr_at, code_at, codes_at, body_of, image_read}
 
 abbrev load : ℕ → ℕ → ℕ → Instr
 load a b imm = record { op = op.Load; a = a; b = b; c = 0; imm = imm }

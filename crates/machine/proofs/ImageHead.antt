@@ -7,10 +7,11 @@ use Rattle.std.proofs.lemmas.List.{drop-drop, take_rest}
 use Rattle.light_base.specs.Numbers.{big_endian_at}
 use Rattle.light_base.proofs.Numbers.{big_endian_at-within, big_endian_at-there}
 use Rattle.machine.specs.Programs.{Instr}
-use Rattle.machine.specs.Faults.{is_short_length, ImageKind, ImageFault, whole_fault, are_counts}
+use Rattle.machine.specs.Faults.{is_short_length, ImageFault, whole_fault, are_counts}
 use Rattle.machine.specs.declared.image_fault.ImageKind.TheVariants as kind
 use Rattle.machine.specs.Images.{magic}
-use Rattle.machine.specs.ImageReading.{numbers_at, threads_in, words_in, lengths_in, words_place, image_len, counts_fault, lengths_fault, codes_place, codes_at, after, body_of, image_read}
+use Rattle.machine.specs.Reading.{numbers_at, after}
+use Rattle.machine.specs.ImageReading.{threads_in, words_in, lengths_in, words_place, image_len, counts_fault, lengths_fault, codes_place, codes_at, body_of, image_read}
 
 -- ---- numbers in a row
 
@@ -108,21 +109,21 @@ counted threads words = Ok (threads, words)
 abbrev refused : {A : Type 0} → ImageFault → Result A ImageFault
 refused e = Err e
 
-after_err : {A B : Type 0} (f : Option ImageKind) (x : A) (r : Result B ImageFault) (e : ImageFault) → Err e ≡ after f (Ok x) → after f r ≡ Err e
-after_err None x r e h = absurd cc
-after_err (Some k) x r e h = cc
+pub after_err : {A B K E : Type 0} (tell : K → E) (f : Option K) (x : A) (r : Result B E) (e : E) → Err e ≡ after tell f (Ok x) → after tell f r ≡ Err e
+after_err tell None x r e h = absurd cc
+after_err tell (Some k) x r e h = cc
 
-pub after_ok : {A : Type 0} (f : Option ImageKind) (r : Result A ImageFault) (x : A) → after f r ≡ Ok x → (f ≡ None) × (r ≡ Ok x)
-after_ok None r x e = (refl, e)
-after_ok (Some k) r x e = absurd cc
+pub after_ok : {A K E : Type 0} (tell : K → E) (f : Option K) (r : Result A E) (x : A) → after tell f r ≡ Ok x → (f ≡ None) × (r ≡ Ok x)
+after_ok tell None r x e = (refl, e)
+after_ok tell (Some k) r x e = absurd cc
 
-pub counts_refused : (bytes : List ℕ) (e : ImageFault) → refused e ≡ after (counts_fault bytes) (Ok (counts_in bytes)) → image_read bytes ≡ Err e
+pub counts_refused : (bytes : List ℕ) (e : ImageFault) → refused e ≡ after whole_fault (counts_fault bytes) (Ok (counts_in bytes)) → image_read bytes ≡ Err e
 unfolding image_read
-counts_refused bytes e h = after_err (counts_fault bytes) (counts_in bytes) (after (lengths_fault bytes) (body_of bytes)) e h
+counts_refused bytes e h = after_err whole_fault (counts_fault bytes) (counts_in bytes) (after whole_fault (lengths_fault bytes) (body_of bytes)) e h
 
-pub head_is : (bytes : List ℕ) (threads words : ℕ) → counted threads words ≡ after (counts_fault bytes) (Ok (counts_in bytes)) → IsHead bytes threads words
+pub head_is : (bytes : List ℕ) (threads words : ℕ) → counted threads words ≡ after whole_fault (counts_fault bytes) (Ok (counts_in bytes)) → IsHead bytes threads words
 head_is bytes threads words h =
-    let both = after_ok (counts_fault bytes) (Ok (counts_in bytes)) (threads, words) (sym h) in
+    let both = after_ok whole_fault (counts_fault bytes) (Ok (counts_in bytes)) (threads, words) (sym h) in
     let same : counts_in bytes ≡ (threads, words) = cc both.1 in
     record { fault = both.0; threads_are = ap (λ (p : ℕ × ℕ). p.0) same; words_are = ap (λ (p : ℕ × ℕ). p.1) same }
 
@@ -153,7 +154,7 @@ image_cut bytes threads words lens has e cut =
     let total : sum lens ≡ sum (lengths_in bytes) = ap sum has.lengths_are in
     rw (has.head.fault, lengths_cut bytes (omega (arith, has.head.threads_are, has.there)) short (omega (arith, has.head.threads_are, has.head.words_are, total, cut))) refl
 
-pub has_lengths : (bytes : List ℕ) (threads words : ℕ) (lens : List ℕ) → counted threads words ≡ after (counts_fault bytes) (Ok (counts_in bytes)) → 7 + 2 * threads ≤ length bytes → lens ≡ numbers_at w16 threads (take (length bytes - 7) (drop 7 bytes))
+pub has_lengths : (bytes : List ℕ) (threads words : ℕ) (lens : List ℕ) → counted threads words ≡ after whole_fault (counts_fault bytes) (Ok (counts_in bytes)) → 7 + 2 * threads ≤ length bytes → lens ≡ numbers_at w16 threads (take (length bytes - 7) (drop 7 bytes))
     → HasLengths bytes threads words lens
 has_lengths bytes threads words lens counts there read =
     let head = head_is bytes threads words counts in

@@ -9,7 +9,8 @@ use Rattle.machine.specs.Programs.{Instr, Op, IsInstr, op_of, code_of_op, every_
 use Rattle.machine.specs.declared.program.Op.TheVariants as op
 use Rattle.machine.specs.Faults.{ImageFault, ImageKind, instr_fault}
 use Rattle.machine.specs.Images.{instr_image, code_image}
-use Rattle.machine.specs.ImageReading.{◌>>=◌, kept, with_op, instr_at, placed, code_at, codes_at}
+use Rattle.machine.specs.Reading.{◌>>=◌}
+use Rattle.machine.specs.ImageReading.{kept, with_op, instr_at, placed, code_at, codes_at}
 use Rattle.machine.proofs.Rules.{KeepsRules, instr_keeps, instr_fault_none}
 use Rattle.machine.proofs.ImageSteps.{sum-cons}
 use Rattle.machine.proofs.ImageNumbers.{IsBytes-drop, IsBytes-take, join, wide32, front_number}
@@ -114,14 +115,14 @@ instr_again len i rest rules below =
 -- ---- the code of a thread
 
 -- the value of a step that did not fail
-pub bind_ok : {A B : Type 0} (r : Result A ImageFault) (f : A → Result B ImageFault) (y : B) → (r >>= f) ≡ Ok y → (x : A) × (r ≡ Ok x) × (f x ≡ Ok y)
+pub bind_ok : {A B E : Type 0} (r : Result A E) (f : A → Result B E) (y : B) → (r >>= f) ≡ Ok y → (x : A) × (r ≡ Ok x) × (f x ≡ Ok y)
 bind_ok (Ok x) f y e = (x, refl, e)
 bind_ok (Err d) f y e = absurd cc
 
-abbrev done : {A : Type 0} → A → Result A ImageFault
+abbrev done : {A E : Type 0} → A → Result A E
 done x = Ok x
 
-pub ok_is : {A : Type 0} (x y : A) → done x ≡ done y → x ≡ y
+pub ok_is : {A E : Type 0} (x y : A) → done {E = E} x ≡ done {E = E} y → x ≡ y
 ok_is x y e = cc
 
 placed_ok : {A : Type 0} (thread at : ℕ) (r : Result A ImageKind) (x : A) → placed thread at r ≡ Ok x → r ≡ Ok x

@@ -14,7 +14,8 @@ use Rattle.machine.specs.Programs.{Instr, ProgramValue, IsProgram}
 use Rattle.machine.specs.Faults.{is_short_length, ImageFault, ImageKind, whole_fault, are_counts, is_count, is_short_code}
 use Rattle.machine.specs.declared.image_fault.ImageKind.TheVariants as kind
 use Rattle.machine.specs.Images.{magic, code_image, length_image, counts_image, image_of, HasNumbers, IsImage}
-use Rattle.machine.specs.ImageReading.{Gives, out_of_memory, numbers_at, codes_at, threads_in, words_in, lengths_in, words_place, codes_place, image_len, counts_fault, lengths_fault, after, body_of, image_read}
+use Rattle.machine.specs.Reading.{numbers_at, after}
+use Rattle.machine.specs.ImageReading.{Gives, out_of_memory, codes_at, threads_in, words_in, lengths_in, words_place, codes_place, image_len, counts_fault, lengths_fault, body_of, image_read}
 use Rattle.machine.proofs.Rules.{count_holds, is_count_from, codes_are, codes_rules, codes_short}
 use Rattle.machine.proofs.ImageNumbers.{IsBytes-drop, wide16, wide32, front_number, TakesNumbers, numbers_take, numbers_again}
 use Rattle.machine.proofs.ImageInstrs.{bind_ok, ok_is, FitsImm, TakesCodes, codes_take, codes_again, length-codes_image}
@@ -43,7 +44,7 @@ short_lengths_fit (code ∷ codes) short = (omega (arith, short.0), short_length
 
 -- ---- what is read is spelled so
 
-guarded : (b : Bool) (k : ImageKind) (more : Option ImageKind) → cond b (Some k) more ≡ None → (b ≡ false) × (more ≡ None)
+pub guarded : {K : Type 0} (b : Bool) (k : K) (more : Option K) → cond b (Some k) more ≡ None → (b ≡ false) × (more ≡ None)
 guarded true k more e = absurd cc
 guarded false k more e = (refl, e)
 
@@ -152,8 +153,8 @@ program_read bytes codes head lengths takes count words =
 pub image_takes : (bytes : List ℕ) (p : ProgramValue) → IsBytes bytes → image_read bytes ≡ Ok p → IsImage bytes p
 unfolding image_read
 image_takes bytes p fits e =
-    let a = after_ok (counts_fault bytes) (after (lengths_fault bytes) (body_of bytes)) p e in
-    let b = after_ok (lengths_fault bytes) (body_of bytes) p a.1 in
+    let a = after_ok whole_fault (counts_fault bytes) (after whole_fault (lengths_fault bytes) (body_of bytes)) p e in
+    let b = after_ok whole_fault (lengths_fault bytes) (body_of bytes) p a.1 in
     let body = body_ok bytes p b.1 in
     let codes = body.0 in
     let head = head_sound bytes a.0 in

@@ -7,7 +7,8 @@ use Rattle.light_base.specs.Numbers.{big_endian_at}
 use Rattle.light_base.proofs.Numbers.{big_endian_at-within}
 use Rattle.machine.specs.Programs.{Instr, Op, op_of}
 use Rattle.machine.specs.Faults.{ImageKind, ImageFault, instr_fault}
-use Rattle.machine.specs.ImageReading.{◌>>=◌, kept, with_op, instr_at, code_at, codes_at}
+use Rattle.machine.specs.Reading.{◌>>=◌}
+use Rattle.machine.specs.ImageReading.{kept, with_op, instr_at, code_at, codes_at}
 
 pub sum-cons : (x : ℕ) (xs : List ℕ) → sum (x ∷ xs) ≡ x + sum xs
 sum-cons x xs = sum_by-cons (λ (n : ℕ). n) x xs

@@ -1,10 +1,8 @@
 -- Threads keep to their limits.
-use Rattle.std.proofs.Common.{◌≡◌, ℕ, zero, suc, ◌<◌, ◌≤◌, Bool, false, List, [], ◌∷◌, ◌++◌, length, take, refl, sym, ◌∙◌, ap, subst, arith, inl, inr}
+use Rattle.std.proofs.Common.{◌≡◌, ℕ, zero, suc, ◌<◌, ◌≤◌, Bool, false, List, [], ◌∷◌, ◌++◌, length, take, refl, sym, ◌∙◌, ap, subst, arith}
 use Rattle.std.specs.Prelude.{slice_get, slice_index_or, Option, Some, None}
 use Rattle.std.proofs.Math.Seq.{take-length, take-suc}
-use Rattle.std.proofs.lemmas.Bool.{cases_lt}
-use Rattle.std.proofs.lemmas.List.{get_or_past, length-take}
-use Rattle.std.proofs.lemmas.List.Elements.{All-get_or}
+use Rattle.std.proofs.lemmas.List.{length-take}
 use Rattle.replay_model.specs.Steps.{Step, has_ended}
 use Rattle.replay_model.specs.Threads.{IsRun, no_step}
 use Rattle.replay_model.specs.ThreadLogs.{is_full}
@@ -16,6 +14,7 @@ use Rattle.machine.specs.Programs.{ProgramValue, LimitsValue, code_of}
 use Rattle.machine.specs.Inputs.{InputsValue, AreShort, inputs_of, most_inputs}
 use Rattle.machine.specs.Cores.{State, first_state, comes_to, instr_or_halt, waiting_or, run_local, run_on, resumed, settled, took}
 use Rattle.machine.specs.Runs.{state_after, threads_of, tallies_of}
+use Rattle.machine.proofs.InputLists.{short_list}
 use Rattle.machine.proofs.Local.{GoesOn, going_instr}
 use Rattle.machine.proofs.Rests.{IsAsked, settled-none}
 use Rattle.machine.proofs.Took.{took_takes}
@@ -76,14 +75,6 @@ run_instructions p limits inputs t steps run =
 
 threads_asked : (p : ProgramValue) (limits : LimitsValue) (inputs : InputsValue) (t : ℕ) (steps : List Step) → IsAsked (length p.words) (is_full limits.entries steps) (threads_of p limits inputs t steps)
 threads_asked p limits inputs t steps = subst (IsAsked (length p.words) (is_full limits.entries steps)) (sym (wanted_of p limits inputs t steps)) (state_after-stands p limits inputs t steps).asked
-
--- one list of short lists is short
-short_list : (inputs : InputsValue) → AreShort inputs → (t : ℕ) → length (inputs_of inputs t) ≤ most_inputs
-short_list inputs short t =
-    elim (cases_lt t (length inputs)) [
-      | inl lt ↦ All-get_or (λ (list : List ℕ). length list ≤ most_inputs) inputs t [] lt short
-      | inr le ↦ rw (get_or_past inputs t [] le) (omega arith)
-    ]
 
 -- the numbers that a thread has taken are no more than its list has
 tallies_short : (p : ProgramValue) (limits : LimitsValue) (inputs : InputsValue) → AreShort inputs → (t : ℕ) (steps : List Step) → length (tallies_of p limits inputs t steps).taken ≤ most_inputs

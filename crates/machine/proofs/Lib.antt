@@ -11,7 +11,12 @@ pub mod ImageHead
 pub mod ImageSteps
 pub mod ImageNumbers
 pub mod ImageInstrs
+pub mod InputLists
 pub mod Keeping
+pub mod Taking
 pub mod ImageLaws
 pub mod ImageWriting
+pub mod InputHead
+pub mod InputLaws
 pub mod ImageExamples
+pub mod InputExamples

@@ -1,9 +1,9 @@
 -- A thread runs on the numbers that it takes as on its whole list.
 use Rattle.std.proofs.Common.{◌≡◌, ℕ, zero, suc, ◌+◌, ◌<◌, ◌≤◌, Bool, true, false, cond, ◌&&◌, leb, List, [], ◌∷◌, ◌++◌, length, take, refl, sym, ◌∙◌, ap, subst, arith}
-use Rattle.std.specs.Prelude.{slice_get, slice_index, slice_index_or, map, Option, Some, None}
+use Rattle.std.specs.Prelude.{slice_get, slice_index, Option, Some, None}
 use Rattle.std.proofs.Math.Seq.{take-length}
 use Rattle.std.proofs.lemmas.Bool.{leb-true, leb-false, le-leb, lt-leb}
-use Rattle.std.proofs.lemmas.List.{get_or-take, get_or-map, length-take, length-map, take-take}
+use Rattle.std.proofs.lemmas.List.{get_or-take, get_or-map, length-take, take-take}
 use Rattle.replay_model.specs.Steps.{Step, has_ended}
 use Rattle.replay_model.specs.Threads.{IsRun}
 use Rattle.replay_model.specs.Histories.{steps_of}
@@ -39,6 +39,7 @@ settled_taken p limits list full s = by_pending s.pending refl
   where
     P : State → Type 0
     P n = s.taken ≤ n.taken
+
     by_pending : (o : Option Want) → s.pending ≡ o → s.taken ≤ (settled p limits list full s).taken
     by_pending None h = subst P (sym (settled-none p limits list full s s.expected h refl)) (resumed_taken p limits list full s s.expected)
     by_pending (Some w) h = subst P (sym (settled-some p limits list full s w h)) (omega arith)
@@ -248,10 +249,12 @@ pub fits_on_taken : (p : ProgramValue) (limits : LimitsValue) (inputs : InputsVa
     Fits (threads_of p limits inputs) (tallies_of p limits inputs) initial log runs → Fits (threads_of p limits (taken_in log)) (tallies_of p limits (taken_in log)) initial log runs
 fits_on_taken p limits inputs initial log runs fits =
     let held = held_in p limits inputs log runs fits.logs in
+    let P : List Step → ℕ → Type 0 = λ run n. inputs_of (taken_in log) n ≡ (tallies_of p limits inputs n run).taken in
+    let from_0 : (t : ℕ) → t < length runs → P (steps_of runs t) (0 + t) = λ t l. (let z : t ≡ 0 + t = omega arith in subst (P (steps_of runs t)) z (held t l)) in
     record {
       run = λ t l. run_on_taken p limits inputs (taken_in log) t (steps_of runs t) (held t l) (fits.run t l);
       grounded = fits.grounded;
-      logs = fits.logs ∙ logs_on_taken p limits inputs (taken_in log) 0 runs held;
+      logs = fits.logs ∙ logs_on_taken p limits inputs (taken_in log) 0 runs from_0;
       words = fits.words;
       lasts = fits.lasts;
     }

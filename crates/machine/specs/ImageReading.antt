@@ -1,7 +1,8 @@
 -- Reading an image: the program that the bytes spell, or the first fault in the order of the tests.
-use Rattle.std.specs.Prelude.{◌≡◌, ◌≢◌, ℕ, zero, suc, ◌+◌, ◌*◌, not, nat_lt, nat_eq, if◌then◌else◌, List, [], ◌∷◌, length, take, drop, sum, slice_index, slice_range, Option, None, Some, Result, Ok, Err}
+use Rattle.std.specs.Prelude.{ℕ, zero, suc, ◌+◌, ◌*◌, not, nat_lt, nat_eq, if◌then◌else◌, List, [], ◌∷◌, length, drop, sum, slice_index, slice_range, Option, None, Some, Result, Ok, Err}
 use Rattle.std.specs.List.{list_all, starts_with}
-use Rattle.std.specs.Int.{Width, w16, w32, byte_len, from_be_bytes}
+use Rattle.std.specs.Int.{w16, w32, from_be_bytes}
+use Rattle.machine.specs.Reading.{GivesUnless, ◌>>=◌, after, numbers_at}
 use Rattle.machine.specs.Programs.{Instr, Op, ProgramValue, op_of}
 use Rattle.machine.specs.Faults.{ImageFault, ImageKind, whole_fault, instr_fault, are_counts, is_short_length}
 use Rattle.machine.specs.declared.image_fault.ImageKind.TheVariants as kind
@@ -11,21 +12,9 @@ use Rattle.machine.specs.Images.{magic}
 abbrev pub out_of_memory : ImageFault
 out_of_memory = whole_fault kind.Memory
 
--- What a function returned, seen by view, is what reading gives, unless memory ran out.
+-- the same as reading gives, unless memory ran out
 abbrev pub Gives : {X Y : Type 0} → (X → Y) → Result X ImageFault → Result Y ImageFault → Type 0
-Gives view (Ok x) read = read ≡ Ok (view x)
-Gives view (Err e) read = e ≢ out_of_memory → read ≡ Err e
-
--- one step after the other, up to the first fault
-infixl 10 ◌>>=◌
-abbrev pub ◌>>=◌ : {A B : Type 0} → Result A ImageFault → (A → Result B ImageFault) → Result B ImageFault
-(Ok x) >>= f = f x
-(Err e) >>= f = Err e
-
--- so many numbers of this width, one after the other
-unfoldable pub numbers_at : Width → ℕ → List ℕ → List ℕ
-numbers_at w zero bytes = []
-numbers_at w (suc n) bytes = from_be_bytes w (take (byte_len w) bytes) ∷ numbers_at w n (drop (byte_len w) bytes)
+Gives view r read = GivesUnless out_of_memory view r read
 
 -- ---- the head: the counts and the lengths of the codes
 
@@ -107,11 +96,6 @@ codes_at thread (len ∷ lens) bytes = do
 
 -- ---- the image
 
--- a fault of the head, or what comes after it
-abbrev pub after : {A : Type 0} → Option ImageKind → Result A ImageFault → Result A ImageFault
-after None r = r
-after (Some k) r = Err (whole_fault k)
-
 -- the words and the codes, with nothing behind them
 unfoldable pub body_of : List ℕ → Result ProgramValue ImageFault
 body_of bytes = do
@@ -120,4 +104,4 @@ body_of bytes = do
 
 -- the program whose image the bytes are, or the first fault
 unfoldable pub image_read : List ℕ → Result ProgramValue ImageFault
-image_read bytes = after (counts_fault bytes) (after (lengths_fault bytes) (body_of bytes))
+image_read bytes = after whole_fault (counts_fault bytes) (after whole_fault (lengths_fault bytes) (body_of bytes))

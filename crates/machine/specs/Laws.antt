@@ -1,8 +1,10 @@
 -- What holds of the threads of every program.
-use Rattle.std.specs.Prelude.{◌≡◌, ℕ, Bool, Some, IsSome, List, [], ◌∷◌, ◌++◌, length}
+use Rattle.std.specs.Prelude.{◌≡◌, ℕ, Bool, Some, IsSome, List, [], ◌∷◌, ◌++◌, length, take, map}
 use Rattle.replay_model.specs.Steps.{Tag, Cell, Step}
 use Rattle.replay_model.specs.declared.Want.TheVariants.{Load, Cond}
-use Rattle.replay_model.specs.Threads.{Threads, StaysWithin, HasOnly, EndsWithin}
+use Rattle.replay_model.specs.Threads.{Threads, StaysWithin, HasOnly, EndsWithin, IsRun}
+use Rattle.replay_model.specs.Fitting.{Fits}
+use Rattle.replay_model.specs.Logs.{Log, ThreadLog}
 use Rattle.replay_model.specs.ThreadLogs.{is_full}
 use Rattle.replay_model.specs.KeptLimits.{KeepsLimits}
 use Rattle.machine.specs.Programs.{ProgramValue, LimitsValue}
@@ -61,3 +63,33 @@ pub record FollowsLoad (threads : Threads) (t : ℕ) (steps : List Step) (word :
 abbrev pub CompareAfterLoads : Type 0
 CompareAfterLoads = (p : ProgramValue) (limits : LimitsValue) (inputs : InputsValue) (t : ℕ) (steps : List Step) (word : ℕ) (seen : Tag) (value : ℕ) →
     threads_of p limits inputs t steps ≡ Cond word seen value → FollowsLoad (threads_of p limits inputs) t steps word seen
+
+-- ---- the numbers that are taken are all that matter
+
+-- the list of thread t in these other inputs is just what it takes in these steps
+abbrev pub HasTaken : ProgramValue → LimitsValue → InputsValue → ℕ → List Step → InputsValue → Type 0
+HasTaken p limits inputs t steps others = inputs_of others t ≡ (tallies_of p limits inputs t steps).taken
+
+-- under the numbers that it takes in some steps a thread is in the same state at the end of them, and after each first part of them
+abbrev pub RunOnTaken : Type 0
+RunOnTaken = (p : ProgramValue) (limits : LimitsValue) (inputs others : InputsValue) (t : ℕ) (steps : List Step) → HasTaken p limits inputs t steps others →
+    (k : ℕ) → state_after p limits others t (take k steps) ≡ state_after p limits inputs t (take k steps)
+
+-- it counts the same and takes the same numbers
+abbrev pub TallyOnTaken : Type 0
+TallyOnTaken = (p : ProgramValue) (limits : LimitsValue) (inputs others : InputsValue) (t : ℕ) (steps : List Step) → HasTaken p limits inputs t steps others →
+    tallies_of p limits others t steps ≡ tallies_of p limits inputs t steps
+
+-- its run stays a run
+abbrev pub KeepRunOnTaken : Type 0
+KeepRunOnTaken = (p : ProgramValue) (limits : LimitsValue) (inputs others : InputsValue) (t : ℕ) (steps : List Step) → HasTaken p limits inputs t steps others →
+    IsRun (threads_of p limits inputs) t steps → IsRun (threads_of p limits others) t steps
+
+-- the numbers that a log holds, as inputs
+abbrev pub taken_in : Log → InputsValue
+taken_in log = map (λ (thread : ThreadLog). thread.taken) log.threads
+
+-- runs that fit a log under some inputs fit it under the numbers that it holds
+abbrev pub FitOnTaken : Type 0
+FitOnTaken = (p : ProgramValue) (limits : LimitsValue) (inputs : InputsValue) (initial : List ℕ) (log : Log) (runs : List (List Step)) →
+    Fits (threads_of p limits inputs) (tallies_of p limits inputs) initial log runs → Fits (threads_of p limits (taken_in log)) (tallies_of p limits (taken_in log)) initial log runs

@@ -2,7 +2,9 @@ pub mod Programs
 pub mod Inputs
 pub mod Faults
 pub mod Images
+pub mod Reading
 pub mod ImageReading
+pub mod InputTexts
 pub mod Cores
 pub mod Runs
 pub mod Laws

@@ -1,22 +1,24 @@
 // Reading the image of a program.
 ghost use Rattle.std.specs.Prelude.{◌≡◌, ◌≢◌, ◌↔◌, ℕ, ◌*◌, ◌≤◌, List, if◌then◌else◌, length, sum, Some, None, Ok, true, IfOk, IfErr, IfSome, OnSome, MatchResult};
 ghost use Rattle.std.specs.List.{list_all};
-ghost use Rattle.std.specs.Int.{w16, w32};
+ghost use Rattle.std.specs.Int.{w16};
 ghost use Rattle.light_base.specs.Numbers.{IsBytes};
 ghost use Rattle.machine.specs.Programs.{ProgramValue, IsProgram, code_lists};
 ghost use Rattle.machine.specs.declared.image_fault.ImageKind.TheVariants.{Memory};
 ghost use Rattle.machine.specs.Images.{HasNumbers, IsImage, image_of};
-ghost use Rattle.machine.specs.ImageReading.{Gives, out_of_memory, after, numbers_at, threads_in, words_in, counts_fault, instr_at, code_at, codes_at, image_read};
-ghost use Rattle.machine.specs.Faults.{is_short_length};
+ghost use Rattle.machine.specs.Reading.{after, numbers_at};
+ghost use Rattle.machine.specs.ImageReading.{Gives, out_of_memory, threads_in, words_in, counts_fault, instr_at, code_at, codes_at, image_read};
+ghost use Rattle.machine.specs.Faults.{is_short_length, whole_fault};
 
 use crate::image_fault::{ImageFault, ImageKind};
 use crate::program::{Instr, Op, Program, are_counts};
+use crate::reading::numbers_of;
 use light_base::{u16_at, u32_at};
 use std::alloc::{AllocError, Global};
 
 // The number of threads and the number of words.
 fn counts_of(bytes: &[u8]) -> Result<(usize, usize), ImageFault>
-    ensures value { result ≡ after (counts_fault bytes.now) (Ok (threads_in bytes.now, words_in bytes.now)) }
+    ensures value { result ≡ after whole_fault (counts_fault bytes.now) (Ok (threads_in bytes.now, words_in bytes.now)) }
     ensures most { IfOk result (λ counts. (counts.0 ≤ 15) × (counts.1 ≤ 4096)) }
 {
     let Some(words) = u16_at(bytes, 5) else {
@@ -44,18 +46,6 @@ fn lengths_of(alloc: Global, count: usize, bytes: &[u8]) -> Result<Vec<u16>, All
         lengths.push(u16_at(bytes, 2 * i).unwrap())?;
     }
     Ok(lengths)
-}
-
-// The initial values of so many words.
-fn words_of(alloc: Global, count: usize, bytes: &[u8]) -> Result<Vec<u32>, AllocError>
-    requires { 4 * count ≤ length bytes.now }
-    ensures { IfOk result (λ words. words.items ≡ numbers_at w32 count bytes.now) }
-{
-    let mut words = Vec::with_capacity(alloc, count)?;
-    for i in 0..count {
-        words.push(u32_at(bytes, 4 * i).unwrap())?;
-    }
-    Ok(words)
 }
 
 // How many instructions codes of these lengths have. None where a code is too long.
@@ -159,7 +149,7 @@ fn parts_of(alloc: Global, bytes: &[u8]) -> Result<(Vec<u32>, Vec<Vec<Instr>>), 
     if end < bytes.len() {
         return Err(ImageFault::whole(ImageKind::Long));
     }
-    let words = words_of(alloc, words, &bytes[words_place..])?;
+    let words = numbers_of(alloc, words, &bytes[words_place..])?;
     Ok((words, codes))
 }
 

@@ -1,5 +1,5 @@
 // What holds of the threads of every program.
-ghost use Rattle.machine.specs.Laws.{StayWithinWords, HaveOnlyItsThreads, EndWithinSteps, CountSteps, KeepThread, GoStepByStep, SettleWithPending, StaySettled, KeepToLimits, CompareAfterLoads};
+ghost use Rattle.machine.specs.Laws.{StayWithinWords, HaveOnlyItsThreads, EndWithinSteps, CountSteps, KeepThread, GoStepByStep, SettleWithPending, StaySettled, KeepToLimits, CompareAfterLoads, RunOnTaken, TallyOnTaken, KeepRunOnTaken, FitOnTaken};
 
 /// The threads of every program stay within its words, are no more than it has, end within the limit of steps, and keep
 /// to their limits; the state after one more step follows from the state before it; a conditional write is wanted only
@@ -15,4 +15,13 @@ pub fn machine_law()
     ensures stays { StaySettled }
     ensures keeps { KeepToLimits }
     ensures compares { CompareAfterLoads }
+{}
+
+/// A thread's run that took some numbers is its run under these numbers alone: the same states, counts and numbers taken;
+/// so what fits a log under some inputs fits it under the numbers that the log holds.
+pub fn input_law()
+    ensures states { RunOnTaken }
+    ensures tallies { TallyOnTaken }
+    ensures runs { KeepRunOnTaken }
+    ensures fits { FitOnTaken }
 {}

@@ -1,5 +1,5 @@
 use Rattle.std.proofs.Common.{◌≡◌, ◌*◌, sym, ◌∙◌, arith, rules}
-use Rattle.machine.specs.ImageReading.{numbers_at}
+use Rattle.machine.specs.Reading.{numbers_at}
 use Rattle.std.specs.Int.{w16}
 use Rattle.machine.proofs.ImageHead.{numbers_push}
 use Rattle.machine.proofs.image.lengths_of.Goals as goal

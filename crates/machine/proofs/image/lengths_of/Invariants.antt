@@ -1,6 +1,6 @@
 use Rattle.std.proofs.Common.{◌≡◌, length}
 use Rattle.std.specs.Int.{w16}
-use Rattle.machine.specs.ImageReading.{numbers_at}
+use Rattle.machine.specs.Reading.{numbers_at}
 use Rattle.machine.proofs.image.lengths_of.Given as goal
 
 abbrev pub invariant-loop-i : goal.invariant-loop-i

@@ -4,7 +4,8 @@ use Rattle.std.specs.Int.{w32}
 use Rattle.std.proofs.lemmas.Result.{err_from_is_err_and}
 use Rattle.std.proofs.lemmas.List.{take_rest}
 use Rattle.machine.specs.Programs.{code_lists}
-use Rattle.machine.specs.ImageReading.{numbers_at, codes_at}
+use Rattle.machine.specs.Reading.{numbers_at}
+use Rattle.machine.specs.ImageReading.{codes_at}
 use Rattle.machine.specs.Faults.{is_short_length}
 use Rattle.machine.proofs.ImageHead.{HasCodes, counts_refused, head_is, has_lengths, total_none, total_some, image_short, image_counts, image_cut, image_fault, image_long, image_is}
 use Rattle.machine.proofs.image.parts_of.Goals as goal
