@@ -48,6 +48,7 @@ playing-same played cells seats t new is l here = record {
   legal = is.legal;
   memory = is.memory;
   counted = length-set seats t new ∙ is.counted;
+  listed = is.listed;
   each = each_seat played (thread_steps played) seats t new l here (λ u seat n ul. is.each u seat ul);
 }
 
@@ -93,6 +94,7 @@ playing-step played cells seats t new is l lives here = record {
       ap (λ (m : List Cell). put m (word_of (wanted_by played t)) (record { thread = t; step = length (thread_steps played t) + 1 }) (wrote (wanted_by played t) (found_in m (wanted_by played t)))) is.memory ∙
       ap (λ (w : World). w.memory) (sym (world-step played t lives));
   counted = length-set seats t new ∙ is.counted;
+  listed = is.listed;
   each = each_seat played (thread_steps (after_step played t)) seats t new l
       (subst (λ (s : List Step). IsSeat played.program played.limits played.inputs t s new) (sym (steps-step played t (let c = is.counted in omega (arith, c, l)) lives)) here)
       (λ u seat n ul. subst (λ (s : List Step). IsSeat played.program played.limits played.inputs u s (slice_index_or seats u seat)) (sym (steps-other played t u lives n)) (is.each u seat ul));
@@ -114,13 +116,14 @@ fresh-push count seats new is here = record {
         subst P e (subst (IsFresh count) (sym at) here)
 
 -- the state before any step
-pub playing-new : (p : ProgramValue) (limits : LimitsValue) (inputs : InputsValue) (seats : List Seat) → IsProgram p → AreFresh (length p.threads) seats → IsPlaying (unplayed p limits inputs) (initial_cells p.words) seats
+pub playing-new : (p : ProgramValue) (limits : LimitsValue) (inputs : InputsValue) (seats : List Seat) → IsProgram p → length inputs ≡ length p.threads → AreFresh (length p.threads) seats → IsPlaying (unplayed p limits inputs) (initial_cells p.words) seats
 unfolding play IsLegal
-playing-new p limits inputs seats rules fresh = record {
+playing-new p limits inputs seats rules listed fresh = record {
   rules = rules;
   legal = tt;
   memory = refl;
   counted = fresh.counted;
+  listed = listed;
   each = λ t seat l. subst (λ (s : List Step). IsSeat p limits inputs t s (slice_index_or seats t seat)) (sym (opening_steps (length p.threads) t))
       (fresh-seat p limits inputs t (slice_index_or seats t seat) (fresh.each t seat (let c = fresh.counted in omega (arith, c, l))));
 }

@@ -8,6 +8,7 @@ use Rattle.replay_model.specs.declared.Want.{Want}
 use Rattle.replay_model.specs.declared.Want.TheVariants as want
 use Rattle.replay_model.specs.Steps.{Cell}
 use Rattle.machine.specs.Cores.{State, want_or, end_of, report_of}
+use Rattle.machine.specs.Inputs.{inputs_of}
 use Rattle.machine.specs.Runs.{state_after, reports_of}
 use Rattle.machine.proofs.Runs.{settled_pending}
 use Rattle.history.specs.declared.seat.Seat.{Seat}
@@ -45,7 +46,7 @@ may-report played cells seats is over k d l =
     let e : has_ended (wanted_by played k) ≡ true = over k (omega (arith, n, c, l)) in
     record {
       thread = omega (arith, c, t, l);
-      ended = some-end (run_core played.program played.limits played.inputs (slice_index_or seats k d)).pending (settled_pending played.program played.limits played.inputs _ _)
+      ended = some-end (run_core played.program played.limits played.inputs (slice_index_or seats k d)).pending (settled_pending played.program played.limits (inputs_of played.inputs (slice_index_or seats k d).core.thread) _ _)
           (ap (λ (s : State). has_ended (want_or (want.Ended end.Halted) s.pending)) core ∙ e);
     }
 

@@ -11,7 +11,7 @@ use Rattle.replay_model.proofs.Accesses.{accesses_from-push}
 use Rattle.replay_model.proofs.Sights.{log_length-read, log_length-quiet, has_seen-push}
 use Rattle.machine.specs.Programs.{ProgramValue, LimitsValue}
 use Rattle.machine.specs.Cores.{State, settled, took, want_or}
-use Rattle.machine.specs.Inputs.{InputsValue}
+use Rattle.machine.specs.Inputs.{InputsValue, inputs_of}
 use Rattle.machine.specs.Runs.{state_after, threads_of}
 use Rattle.machine.proofs.Took.{took_takes}
 use Rattle.machine.proofs.Runs.{counts_steps, after_step, settled_pending, settled_stays}
@@ -23,7 +23,9 @@ use Rattle.history.specs.Playing.{run_core, IsFresh, IsSeat, Takes, Keeps}
 -- it comes to what its steps made of it
 pub run_core-settled : (p : ProgramValue) (limits : LimitsValue) (inputs : InputsValue) (t : ℕ) (steps : List Step) (seat : Seat) → IsSeat p limits inputs t steps seat →
     run_core p limits inputs seat ≡ state_after p limits inputs t steps
-run_core-settled p limits inputs t steps seat is = ap (λ (n : ℕ). settled p limits inputs (nat_le limits.entries n) seat.core) is.entries ∙ is.core
+run_core-settled p limits inputs t steps seat is = 
+    ap (λ (u : ℕ). settled p limits (inputs_of inputs u) (nat_le limits.entries (length seat.seen.keys)) seat.core) is.thread ∙
+    ap (λ (n : ℕ). settled p limits (inputs_of inputs t) (nat_le limits.entries n) seat.core) is.entries ∙ is.core
 
 pub ran-wants : (p : ProgramValue) (limits : LimitsValue) (inputs : InputsValue) (t : ℕ) (steps : List Step) (seat : Seat) (wanted : Want) → IsSeat p limits inputs t steps seat →
     (run_core p limits inputs seat).pending ≡ Some wanted → wanted ≡ threads_of p limits inputs t steps
@@ -35,8 +37,8 @@ pub ran-seat : (p : ProgramValue) (limits : LimitsValue) (inputs : InputsValue) 
     new.core ≡ run_core p limits inputs old → (run_core p limits inputs old).thread ≡ t → new.accesses.items ≡ old.accesses.items → new.seen.keys ≡ old.seen.keys → IsSeat p limits inputs t steps new
 ran-seat p limits inputs t steps old new is core thread accesses seen = record {
   core =
-      ap (settled p limits inputs (is_full limits.entries steps)) core ∙
-      settled_stays p limits inputs (is_full limits.entries steps) (run_core p limits inputs old) (settled_pending p limits inputs (nat_le limits.entries (length old.seen.keys)) old.core) ∙
+      ap (settled p limits (inputs_of inputs t) (is_full limits.entries steps)) core ∙
+      settled_stays p limits (inputs_of inputs t) (is_full limits.entries steps) (run_core p limits inputs old) (settled_pending p limits (inputs_of inputs old.core.thread) (nat_le limits.entries (length old.seen.keys)) old.core) ∙
       run_core-settled p limits inputs t steps old is;
   thread = ap (λ (s : State). s.thread) core ∙ thread;
   accesses = accesses ∙ is.accesses;
@@ -58,7 +60,7 @@ pub taken-seat : (p : ProgramValue) (limits : LimitsValue) (inputs : InputsValue
     IsSeat p limits inputs t (steps ++ record { want = wanted; found = found } ∷ []) new
 taken-seat p limits inputs t steps wanted found access old new is at takes = record {
   core =
-      ap (settled p limits inputs (is_full limits.entries (steps ++ step ∷ []))) (takes.core ∙ ap (λ (s : State). took s found) at) ∙ sym (after_step p limits inputs t steps step);
+      ap (settled p limits (inputs_of inputs t) (is_full limits.entries (steps ++ step ∷ []))) (takes.core ∙ ap (λ (s : State). took s found) at) ∙ sym (after_step p limits inputs t steps step);
   thread = ap (λ (s : State). s.thread) takes.core ∙ (took_takes old.core found).thread ∙ is.thread;
   accesses =
       takes.accesses ∙ ap (λ (a : List Access). a ++ access ∷ []) is.accesses ∙ ap (λ (a : Access). accesses_from 1 steps ++ a ∷ []) told ∙ sym (accesses_from-push 1 steps step);
@@ -77,7 +79,7 @@ taken-seat p limits inputs t steps wanted found access old new is at takes = rec
 -- a thread that took no step
 pub kept-seat : (p : ProgramValue) (limits : LimitsValue) (inputs : InputsValue) (t : ℕ) (steps : List Step) (old new : Seat) → IsSeat p limits inputs t steps old → Keeps old new → IsSeat p limits inputs t steps new
 kept-seat p limits inputs t steps old new is keeps = record {
-  core = ap (settled p limits inputs (is_full limits.entries steps)) keeps.core ∙ is.core;
+  core = ap (settled p limits (inputs_of inputs t) (is_full limits.entries steps)) keeps.core ∙ is.core;
   thread = ap (λ (s : State). s.thread) keeps.core ∙ is.thread;
   accesses = keeps.accesses ∙ is.accesses;
   seen = λ word tag. ap (has_pair word tag) keeps.seen ∙ is.seen word tag;
@@ -88,7 +90,7 @@ kept-seat p limits inputs t steps old new is keeps = record {
 pub fresh-seat : (p : ProgramValue) (limits : LimitsValue) (inputs : InputsValue) (t : ℕ) (seat : Seat) → IsFresh t seat → IsSeat p limits inputs t [] seat
 unfolding thread_log
 fresh-seat p limits inputs t seat is = record {
-  core = ap (settled p limits inputs (is_full limits.entries [])) is.core;
+  core = ap (settled p limits (inputs_of inputs t) (is_full limits.entries [])) is.core;
   thread = ap (λ (s : State). s.thread) is.core;
   accesses = is.accesses;
   seen = λ word tag. ap (has_pair word tag) is.seen;

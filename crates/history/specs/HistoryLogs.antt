@@ -1,7 +1,7 @@
 -- The log of a history of a program, and the laws of recording and replaying at programs.
-use Rattle.std.specs.Prelude.{◌≡◌, ℕ, List, length, map}
+use Rattle.std.specs.Prelude.{◌≡◌, ℕ, List, length}
 use Rattle.replay_model.specs.Steps.{Event, Step}
-use Rattle.replay_model.specs.Logs.{ThreadLog, Log}
+use Rattle.replay_model.specs.Logs.{Log}
 use Rattle.replay_model.specs.WellFormed.{IsWellFormed}
 use Rattle.replay_model.specs.Orders.{Respects}
 use Rattle.replay_model.specs.Fitting.{Fits}
@@ -9,16 +9,13 @@ use Rattle.replay_model.specs.SkipPlay.{skip_play}
 use Rattle.replay_model.specs.WholeHistories.{history_log, history_order}
 use Rattle.machine.specs.Programs.{ProgramValue, LimitsValue, IsProgram, AreLimits}
 use Rattle.machine.specs.Inputs.{InputsValue, AreShort}
+use Rattle.machine.specs.Laws.{taken_in}
 use Rattle.machine.specs.Runs.{threads_of, tallies_of, world_after}
 use Rattle.history.specs.Histories.{IsHistory}
 
 -- the log of a history of the program, with this digest
 abbrev pub log_of_history : ProgramValue → LimitsValue → InputsValue → List ℕ → List ℕ → Log
 log_of_history p limits inputs digest history = history_log (threads_of p limits inputs) (tallies_of p limits inputs) digest limits p.words (length p.threads) history
-
--- the input numbers that a log holds, for each thread those that it took
-abbrev pub taken_in : Log → InputsValue
-taken_in log = map (λ (thread : ThreadLog). thread.taken) log.threads
 
 -- runs of the program's threads fit a log: its numbers are the inputs
 abbrev pub FitsProgram : ProgramValue → Log → List (List Step) → Type 0

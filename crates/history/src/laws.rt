@@ -2,7 +2,7 @@
 ghost use Rattle.history.specs.Histories.{RoundsAreWhole, FollowsAreWhole};
 ghost use Rattle.history.specs.HistoryLogs.{HistoryLogsAreWellFormed, HistoryRunsFit, HistoryEventsRespect, ReplaysEndAsHistories, ProgramRunsAreUnique};
 
-use machine::machine_law;
+use machine::{input_law, machine_law};
 use replay_laws::{log_law, skip_law};
 
 /// Turns in rounds make a legal and whole history of every program, and so does an order of turns that is followed by
@@ -23,6 +23,7 @@ pub fn history_log_law()
     ensures unique { ProgramRunsAreUnique }
 {
     machine_law();
+    input_law();
     replay_laws::history_law();
     log_law();
     skip_law();

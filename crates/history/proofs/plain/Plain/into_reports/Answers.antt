@@ -8,7 +8,10 @@ use Rattle.history.proofs.plain.Plain.into_reports.Goals as goal
 pub reports-requires : goal.reports-requires
 reports-requires c =
     let played : Played = record { program = c.self.inside.program.now; limits = c.self.inside.limits; inputs = c.self.inside.inputs.now; taken = c.self.inside.taken.items } in
-    λ k d l. may-report played c.self.inside.cells.items c.self.inside.seats.items c.self.invariant (subst IsOver (sym c.self.view_is) c.requires) k d l
+    record {
+      listed = c.self.invariant.listed;
+      ended = λ k d l. may-report played c.self.inside.cells.items c.self.inside.seats.items c.self.invariant (subst IsOver (sym c.self.view_is) c.requires) k d l;
+    }
 
 pub returns : goal.returns
 returns c =

@@ -11,4 +11,4 @@ invariant_of-result c =
     let Q : List Cell → Type 0 = λ m. IsPlaying (unplayed c.args.program.now c.args.limits c.args.inputs.now) m c.in_ok-seats.seats.items in
     let F : ℕ → Type 0 = λ n. AreFresh n c.in_ok-seats.seats.items in
     subst P (sym c.new.ensures.items) (subst Q (sym (c.in_ok-cells.ensures ∙ ap initial_cells c.words.ensures.value))
-    (playing-new c.args.program.now c.args.limits c.args.inputs.now c.in_ok-seats.seats.items c.words.ensures.rules (subst F c.threads_count.ensures.value c.in_ok-seats.ensures)))
+    (playing-new c.args.program.now c.args.limits c.args.inputs.now c.in_ok-seats.seats.items c.words.ensures.rules c.requires (subst F c.threads_count.ensures.value c.in_ok-seats.ensures)))
