@@ -16,11 +16,8 @@ fn thread_log(
 ) -> Result<ThreadLog, Memory>
     ensures { IfOk result (λ log. log ≡ log_by list.now entries.items report.now) }
 {
-    let taken = list
-        .iter()
-        .take(report.taken() as usize)
-        .copied()
-        .collect(alloc)?;
+    let count = list.len().min(report.taken() as usize);
+    let taken = Vec::from_slice(alloc, &list[..count])?;
     Ok(ThreadLog::new(
         entries,
         report.steps(),

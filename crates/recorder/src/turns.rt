@@ -72,8 +72,9 @@ fn record(
     requires whole { IsHistory program.now limits.now inputs.now plain.taken }
     ensures { IfOk result (λ recorded. recorded ≡ recorded_of program.now limits.now inputs.now plain.entry.taken) }
 {
-    // So no thread has more entries than a log can hold.
+    // So no thread has more entries or input numbers than a log can hold.
     prove!(limits.entries() <= 16_384);
+    prove!(inputs.threads_count() <= 15);
     let all = all_entries(alloc, &plain, program.threads_count() as u8)?;
     let lasts = last_tags(alloc, plain.cells())?;
     let finals = plain.values()?;

@@ -1,8 +1,9 @@
-use Rattle.std.proofs.Common.{ap, ◌∙◌}
+use Rattle.std.proofs.Common.{ap, sym, ◌∙◌}
+use Rattle.machine.specs.Inputs.{InputsValue}
 use Rattle.replay_model.specs.Logs.{Log}
 use Rattle.replay_model.specs.RunLogs.{last_tags}
 use Rattle.recorder.specs.Records.{RecordedValue}
-use Rattle.recorder.specs.ThreadLogs.{logs_by}
+use Rattle.recorder.specs.ThreadLogs.{entry_lists, logs_by}
 use Rattle.recorder.proofs.Records.{recorded-parts, recorded-fits}
 use Rattle.recorder.proofs.turns.record.Goals as goal
 
@@ -12,10 +13,10 @@ new-log-requires c =
     (record {
       entries = c.in_ok-all.ensures;
       reported = c.in_ok-reports.ensures;
-      logged = c.in_ok-threads.ensures ∙ ap (logs_by _ 0 _) c.deref.ensures.value;
+      logged = c.in_ok-threads.ensures ∙ ap (logs_by c.args.inputs.now 0 _) c.deref.ensures.value ∙ ap (λ (i : InputsValue). logs_by i 0 (entry_lists c.in_ok-all.all.items) c.in_ok-reports.reports.items) (sym c.requires.inputs);
       tags = c.in_ok-lasts.ensures ∙ ap last_tags c.cells.ensures;
       values = c.in_ok-finals.ensures;
-    }) c.threads_count.ensures.rules c.entries.ensures.rules c.short c.requires.whole
+    }) c.threads_count-2.ensures.rules c.entries.ensures.rules c.threads_count.ensures.rules.short c.requires.whole
 
 pub returns : goal.returns
 returns c =
@@ -25,7 +26,7 @@ returns c =
     (record {
       entries = c.in_ok-all.ensures;
       reported = c.in_ok-reports.ensures;
-      logged = c.in_ok-threads.ensures ∙ ap (logs_by _ 0 _) c.deref.ensures.value;
+      logged = c.in_ok-threads.ensures ∙ ap (logs_by c.args.inputs.now 0 _) c.deref.ensures.value ∙ ap (λ (i : InputsValue). logs_by i 0 (entry_lists c.in_ok-all.all.items) c.in_ok-reports.reports.items) (sym c.requires.inputs);
       tags = c.in_ok-lasts.ensures ∙ ap last_tags c.cells.ensures;
       values = c.in_ok-finals.ensures;
     })
