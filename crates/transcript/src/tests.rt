@@ -39,11 +39,12 @@ fn transcripts(rt: HostRuntime) -> Result<(), Fail> {
         report_of(alloc, End::StepsSpent, 1, 2, &[])?,
         report_of(alloc, End::EntriesFull, 3, 4, &[])?,
         report_of(alloc, End::OutputFull, 5, 6, &[])?,
+        report_of(alloc, End::InputEmpty, 7, 8, &[])?,
     ];
     let text = text_of(alloc, &ends, &[1, 0, 20])?;
     assert_eq!(rt;
         text.as_slice(),
-        b"thread 0 instr-spent steps 0 instr 1\nout 4294967295\nout 10\nthread 1 steps-spent steps 1 instr 2\nthread 2 entries-full steps 3 instr 4\nthread 3 output-full steps 5 instr 6\nword 0 1\nword 2 20\n".as_slice()
+        b"thread 0 instr-spent steps 0 instr 1\nout 4294967295\nout 10\nthread 1 steps-spent steps 1 instr 2\nthread 2 entries-full steps 3 instr 4\nthread 3 output-full steps 5 instr 6\nthread 4 input-empty steps 7 instr 8\nword 0 1\nword 2 20\n".as_slice()
     );
     Ok(())
 }
