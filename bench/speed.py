@@ -18,7 +18,7 @@ PROGRAM = os.path.join(HERE, "..", "crates", "light_cli", "out", "light_cli")
 CODES = {
     name: code
     for code, name in enumerate(
-        "halt set mov add sub mul and or xor shl shr addi jmp jeq jne jlt out load store xchg cas".split()
+        "halt set mov add sub mul and or xor shl shr addi jmp jeq jne jlt out load store xchg cas in".split()
     )
 }
 

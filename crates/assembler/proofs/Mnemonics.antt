@@ -30,6 +30,7 @@ mnemonic_word op.Load = record { some = refl; all = refl }
 mnemonic_word op.Store = record { some = refl; all = refl }
 mnemonic_word op.Xchg = record { some = refl; all = refl }
 mnemonic_word op.Cas = record { some = refl; all = refl }
+mnemonic_word op.Input = record { some = refl; all = refl }
 
 pub head_mnemonic : (o : Op) → head_of (mnemonic_of o) ≡ head.Operation o
 head_mnemonic op.Halt = refl
@@ -53,3 +54,4 @@ head_mnemonic op.Load = refl
 head_mnemonic op.Store = refl
 head_mnemonic op.Xchg = refl
 head_mnemonic op.Cas = refl
+head_mnemonic op.Input = refl

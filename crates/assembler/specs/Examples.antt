@@ -62,11 +62,12 @@ every_instr =
     ∷ instr op.Store 10 11 0 21
     ∷ instr op.Xchg 12 13 0 22
     ∷ instr op.Cas 14 15 1 23
+    ∷ instr op.Input 2 0 0 0
     ∷ []
 
 abbrev pub every_line : List ℕ
 every_line =
-    codes ".words 1\n.thread\nhalt\nset r1 2\nmov r3 r4\nadd r5 r6 r7\nsub r8 r9 r10\nmul r11 r12 r13\nand r14 r15 r0\nor r1 r2 r3\nxor r4 r5 r6\nshl r7 r8 r9\nshr r10 r11 r12\naddi r13 r14 15\njmp 16\njeq r1 r2 17\njne r3 r4 18\njlt r5 r6 19\nout r7\nload r8 r9 20\nstore r10 r11 21\nxchg r12 r13 22\ncas r14 r15 r1 23\n"
+    codes ".words 1\n.thread\nhalt\nset r1 2\nmov r3 r4\nadd r5 r6 r7\nsub r8 r9 r10\nmul r11 r12 r13\nand r14 r15 r0\nor r1 r2 r3\nxor r4 r5 r6\nshl r7 r8 r9\nshr r10 r11 r12\naddi r13 r14 15\njmp 16\njeq r1 r2 17\njne r3 r4 18\njlt r5 r6 19\nout r7\nload r8 r9 20\nstore r10 r11 21\nxchg r12 r13 22\ncas r14 r15 r1 23\nin r2\n"
 
 abbrev pub every_operation : ProgramValue
 every_operation = record { words = 0 ∷ []; threads = every_instr ∷ [] }

@@ -30,5 +30,6 @@ pub fn mnemonic(op: Op) -> &'static [u8]
         Op::Store => b"store",
         Op::Xchg => b"xchg",
         Op::Cas => b"cas",
+        Op::Input => b"in",
     }
 }

@@ -2,7 +2,8 @@
 use Rattle.std.proofs.Common.{◌≡◌, ℕ, zero, suc, ◌+◌, ◌<◌, ◌≤◌, List, [], ◌∷◌, ◌++◌, length, take, refl, sym, ◌∙◌, ap, subst, arith}
 use Rattle.std.specs.Prelude.{map, All, slice_index_or}
 use Rattle.std.specs.List.{range_with_len}
-use Rattle.std.proofs.lemmas.List.{ext_get_or}
+use Rattle.std.specs.Global.{Vec}
+use Rattle.std.proofs.lemmas.List.{ext_get_or, length-map}
 use Rattle.std.proofs.lemmas.List.Elements.{All-from_get_or}
 use Rattle.std.proofs.lemmas.List.FromFn.{length-map-range_with_len, get_or-map-range_with_len}
 use Rattle.replay_model.specs.declared.Entry.{Entry}
@@ -28,7 +29,7 @@ use Rattle.dep_log.specs.RunLogs.{IsRunLog}
 use Rattle.history.specs.Played.{Played, threads_in, thread_steps, world_of}
 use Rattle.history.specs.Histories.{IsHistory}
 use Rattle.history.proofs.Playing.{threads_count}
-use Rattle.recorder.specs.ThreadLogs.{entries_by, log_by, logs_by}
+use Rattle.recorder.specs.ThreadLogs.{entry_lists, entries_by, log_by, logs_by}
 
 -- the end that is reported is the one that is logged
 ends-alike : (wanted : Want) → end_or_halted (end_of wanted) ≡ logs.end_of wanted
@@ -110,3 +111,12 @@ history-fits p limits inputs digest history rules bounds short whole =
       instr = let most = bounds.instr in omega (arith, most);
       entries = bounds.entries;
     }) whole)
+
+-- there are as many lists of entries, and as many reports, as threads
+pub entries-counted : (played : Played) (all : List (Vec Entry)) → entry_lists all ≡ entries_by played (range_with_len 0 (length played.program.threads)) → length all ≡ length played.program.threads
+entries-counted played all are =
+    sym (length-map all (λ (entries : Vec Entry). entries.items)) ∙ ap length are ∙ length-map-range_with_len (λ (t : ℕ). thread_log (thread_steps played t)) 0 (length played.program.threads)
+
+pub reports-counted : (played : Played) (reports : List Report) → reports ≡ reports_of played.program played.limits played.inputs (world_of played) → length reports ≡ length played.program.threads
+reports-counted played reports are =
+    ap length are ∙ length-map-range_with_len (λ (t : ℕ). report_of (state_after played.program played.limits played.inputs t (thread_steps played t))) 0 (length played.program.threads)

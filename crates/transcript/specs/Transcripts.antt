@@ -5,6 +5,7 @@ use Rattle.std.specs.Fmt.{decimal}
 use Rattle.replay_model.specs.declared.End.{End}
 use Rattle.replay_model.specs.declared.End.TheVariants as end
 use Rattle.machine.specs.Programs.{ProgramValue, LimitsValue}
+use Rattle.machine.specs.Inputs.{InputsValue}
 use Rattle.machine.specs.Cores.{Report}
 use Rattle.machine.specs.Runs.{world_after, reports_of, values_of}
 
@@ -18,6 +19,7 @@ end_text (end.BadAddress address) = codes "bad-address " ++ decimal address
 end_text end.StepsSpent = codes "steps-spent"
 end_text end.EntriesFull = codes "entries-full"
 end_text end.OutputFull = codes "output-full"
+end_text end.InputEmpty = codes "input-empty"
 
 -- thread T END steps S instr I
 abbrev pub thread_line : ℕ → Report → List ℕ

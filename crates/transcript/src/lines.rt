@@ -19,6 +19,7 @@ fn put_end(text: &mut Vec<u8>, end: End) -> Result<(), Memory>
         End::StepsSpent => text.extend_from_slice(b"steps-spent")?,
         End::EntriesFull => text.extend_from_slice(b"entries-full")?,
         End::OutputFull => text.extend_from_slice(b"output-full")?,
+        End::InputEmpty => text.extend_from_slice(b"input-empty")?,
     }
     Ok(())
 }

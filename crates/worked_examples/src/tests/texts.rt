@@ -155,7 +155,7 @@ const ACCEPTED: &str = "\
 .thread/r1:/set: jeq r0 r0 r1|.words 16/.thread/jeq r0 r0 0/
 .thread/halt: halt;halt/jmp halt/ ,jmp,,jmp, \r/jmp:|.words 16/.thread/halt/jmp 0/jmp 3/
 .words 4096/.init 0x0fff 4294967295/.init 0 1/.thread/.thread|.words 4096/.init 0 1/.init 4095 4294967295/.thread/.thread/
-.thread/halt/set r1 2/mov r3 r4/add r5 r6 r7/sub r8 r9 r10/mul r11 r12 r13/and r14 r15 r0/or r1 r2 r3/xor r4 r5 r6/shl r7 r8 r9/shr r10 r11 r12/addi r13 r14 15/jmp 16/jeq r1 r2 17/jne r3 r4 18/jlt r5 r6 19/out r7/load r8 r9 20/store r10 r11 21/xchg r12 r13 22/cas r14 r15 r0 23|.words 16/.thread/halt/set r1 2/mov r3 r4/add r5 r6 r7/sub r8 r9 r10/mul r11 r12 r13/and r14 r15 r0/or r1 r2 r3/xor r4 r5 r6/shl r7 r8 r9/shr r10 r11 r12/addi r13 r14 15/jmp 16/jeq r1 r2 17/jne r3 r4 18/jlt r5 r6 19/out r7/load r8 r9 20/store r10 r11 21/xchg r12 r13 22/cas r14 r15 r0 23/
+.thread/halt/set r1 2/mov r3 r4/add r5 r6 r7/sub r8 r9 r10/mul r11 r12 r13/and r14 r15 r0/or r1 r2 r3/xor r4 r5 r6/shl r7 r8 r9/shr r10 r11 r12/addi r13 r14 15/jmp 16/jeq r1 r2 17/jne r3 r4 18/jlt r5 r6 19/out r7/load r8 r9 20/store r10 r11 21/xchg r12 r13 22/cas r14 r15 r0 23/in r2|.words 16/.thread/halt/set r1 2/mov r3 r4/add r5 r6 r7/sub r8 r9 r10/mul r11 r12 r13/and r14 r15 r0/or r1 r2 r3/xor r4 r5 r6/shl r7 r8 r9/shr r10 r11 r12/addi r13 r14 15/jmp 16/jeq r1 r2 17/jne r3 r4 18/jlt r5 r6 19/out r7/load r8 r9 20/store r10 r11 21/xchg r12 r13 22/cas r14 r15 r0 23/in r2/
 .thread/CAS R1 R2 R3 0x4/XcHg r1 r2 3/JMP Up/Up: jNe r1 r2 Up/JLT r1,r2,end/MOV r15 R0/sHR r1 r2 r3/end:|.words 16/.thread/cas r1 r2 r3 4/xchg r1 r2 3/jmp 3/jne r1 r2 3/jlt r1 r2 7/mov r15 r0/shr r1 r2 r3/";
 
 // The line and the kind of the fault in the bytes; 0 and 0 where there is none.

@@ -1,11 +1,21 @@
-use Rattle.std.proofs.Common.{ap, sym, ◌∙◌}
+use Rattle.std.proofs.Common.{length, ap, sym, ◌∙◌}
+use Rattle.machine.specs.Programs.{ProgramValue}
 use Rattle.machine.specs.Inputs.{InputsValue}
 use Rattle.replay_model.specs.Logs.{Log}
 use Rattle.replay_model.specs.RunLogs.{last_tags}
 use Rattle.recorder.specs.Records.{RecordedValue}
 use Rattle.recorder.specs.ThreadLogs.{entry_lists, logs_by}
+use Rattle.recorder.proofs.Logs.{entries-counted, reports-counted}
 use Rattle.recorder.proofs.Records.{recorded-parts, recorded-fits}
 use Rattle.recorder.proofs.turns.record.Goals as goal
+
+pub thread_logs-requires-clause-listed : goal.thread_logs-requires-clause-listed
+thread_logs-requires-clause-listed c =
+    c.requires.listed ∙ ap (λ (p : ProgramValue). length p.threads) (sym c.requires.program) ∙ sym (reports-counted c.args.plain c.deref.result.now (c.deref.ensures.value ∙ c.in_ok-reports.ensures))
+
+pub thread_logs-requires-clause-counted : goal.thread_logs-requires-clause-counted
+thread_logs-requires-clause-counted c =
+    entries-counted c.args.plain c.in_ok-all.all.items c.in_ok-all.ensures ∙ sym (reports-counted c.args.plain c.deref.result.now (c.deref.ensures.value ∙ c.in_ok-reports.ensures))
 
 pub new-log-requires : goal.new-log-requires
 new-log-requires c =
