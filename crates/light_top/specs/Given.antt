@@ -35,6 +35,10 @@ image_in files name = file_in files name >>= as_image
 abbrev pub text_in : Files → List ℕ → Result ProgramValue Status
 text_in files name = file_in files name >>= as_text
 
+-- the inputs in the file of that name
+abbrev pub numbers_in : Files → List ℕ → Result InputsValue Status
+numbers_in files name = file_in files name >>= as_inputs
+
 -- as many input lists as the program has threads
 abbrev pub matched : ℕ → InputsValue → Result InputsValue Status
 matched threads inputs = if length inputs == threads then Ok inputs else Err (status.WrongInputs threads (length inputs))
@@ -42,10 +46,7 @@ matched threads inputs = if length inputs == threads then Ok inputs else Err (st
 -- the inputs in the file of that name, and without one an empty list for each thread
 abbrev pub inputs_in : Files → Option (List ℕ) → ℕ → Result InputsValue Status
 inputs_in files None threads = Ok (replicate threads [])
-inputs_in files (Some name) threads = do
-  bytes ← file_in files name
-  inputs ← as_inputs bytes
-  matched threads inputs
+inputs_in files (Some name) threads = numbers_in files name >>= matched threads
 
 -- the task of a command
 abbrev pub given : Command → Files → Result Task Status

@@ -1,9 +1,10 @@
 -- Images and inputs that are read, and texts that are assembled.
 use Rattle.std.specs.Prelude.{ℕ, List, Result, Ok, Err}
 use Rattle.machine.specs.declared.image_fault.ImageFault.{ImageFault}
-use Rattle.machine.specs.declared.inputs.InputFault.{InputFault}
+use Rattle.machine.specs.declared.input_fault.InputFault.{InputFault}
 use Rattle.machine.specs.Programs.{ProgramValue}
 use Rattle.machine.specs.Inputs.{InputsValue}
+use Rattle.machine.specs.InputTexts.{inputs_read}
 use Rattle.machine.specs.ImageReading.{image_read}
 use Rattle.assembler.specs.declared.asm_fault.AsmFault.{AsmFault}
 use Rattle.assembler.specs.Assembled.{assembled}

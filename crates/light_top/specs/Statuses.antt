@@ -2,7 +2,9 @@
 use Rattle.std.specs.Prelude.{◌≡◌, ◌≢◌, ℕ, ◌+◌, List, [], ◌∷◌, ◌++◌, codes, Result, Ok, Err}
 use Rattle.std.specs.Fmt.{decimal}
 use Rattle.machine.specs.declared.image_fault.ImageKind.TheVariants as kind
+use Rattle.machine.specs.declared.input_fault.InputKind.TheVariants as input_kind
 use Rattle.machine.specs.Faults.{number_of_kind}
+use Rattle.machine.specs.InputTexts.{number_of_kind as number_of_input_kind}
 use Rattle.assembler.specs.declared.asm_fault.AsmKind.TheVariants as asm_kind
 use Rattle.assembler.specs.Assembled.{number_of_kind as number_of_asm_kind}
 use Rattle.light_top.specs.declared.status.Status.{Status}

@@ -3,7 +3,7 @@ ghost use Rattle.std.specs.Prelude.{◌≡◌, ◌≤◌, length, Ok, OnOk, IfOk
 ghost use Rattle.light_top.specs.Statuses.{most_bytes};
 ghost use Rattle.light_top.specs.Images.{as_text, as_inputs};
 ghost use Rattle.light_top.specs.Tasks.{IsMatched};
-ghost use Rattle.light_top.specs.Given.{file_in, image_in, text_in, inputs_in, matched, given, Gives, NotRead, NotGiven};
+ghost use Rattle.light_top.specs.Given.{file_in, image_in, text_in, numbers_in, inputs_in, matched, given, Gives, NotRead, NotGiven};
 
 use crate::Status;
 use crate::bytes::Bytes;
@@ -96,6 +96,23 @@ fn read_numbers(alloc: Global, bytes: &[u8]) -> Result<Inputs, Status>
     }
 }
 
+// The inputs in a file.
+fn load_numbers<S: Store>(
+    alloc: Global,
+    store: &mut S,
+    name: &Name<'_>,
+) -> Result<Inputs, Status>
+    ensures ok { IfOk result (Gives (S.files store.old) (λ files. numbers_in files name.now)) }
+    ensures err { IfErr result (NotGiven (S.files store.old) (S.sound store.old) (S.faults store.old) (S.faults store.new) (λ files. numbers_in files name.now)) }
+
+    ensures files { S.files store.new ≡ S.files store.old }
+    ensures sound { S.sound store.new ≡ S.sound store.old }
+    ensures quiet { OnOk result (S.faults store.new ≡ S.faults store.old) }
+{
+    let bytes = load(alloc, store, name)?;
+    read_numbers(alloc, bytes.as_slice())
+}
+
 // As many input lists as a program has threads.
 fn matched(inputs: Inputs, threads: usize) -> Result<Inputs, Status>
     requires { threads ≤ 15 }
@@ -133,8 +150,7 @@ fn load_inputs<S: Store>(
 {
     match name {
         Some(name) => {
-            let bytes = load(alloc, store, name)?;
-            let inputs = read_numbers(alloc, bytes.as_slice())?;
+            let inputs = load_numbers(alloc, store, name)?;
             matched(inputs, threads)
         }
         None => match Inputs::none(alloc, threads as u8) {

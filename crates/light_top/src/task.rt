@@ -86,7 +86,7 @@ fn record(
 
 /// Does a task.
 pub fn perform<'a>(alloc: Global, task: Task<'a>) -> Result<Output<'a>, Memory>
-    requires { IsMatched task.entry }
+    requires { IsMatched task }
     ensures { IfOk result (Means task.entry) }
 {
     match task {

@@ -1,9 +1,10 @@
 // One function for each kind of line. After `Memory` the text has some front of the line more.
-ghost use Rattle.std.specs.Prelude.{◌≡◌, ◌++◌, [], OnOk};
+ghost use Rattle.std.specs.Prelude.{◌≡◌, ◌++◌, OnOk};
 ghost use Rattle.std.specs.List.{flat_map};
 ghost use Rattle.transcript.specs.Transcripts.{end_text, thread_line, out_line, word_line, word_lines};
 
 use light_base::{Memory, put_decimal};
+use machine::RunReport;
 use replay_model::End;
 
 fn put_end(text: &mut Vec<u8>, end: End) -> Result<(), Memory>
@@ -67,23 +68,17 @@ pub fn put_words(text: &mut Vec<u8>, finals: &[u32]) -> Result<(), Memory>
 }
 
 /// Appends the line of a thread.
-pub fn put_thread(
-    text: &mut Vec<u8>,
-    thread: usize,
-    end: End,
-    steps: u32,
-    instr: u32,
-) -> Result<(), Memory>
-    ensures { OnOk result (text.new.items ≡ text.old.items ++ thread_line thread (record { end = end; steps = steps; instr = instr; output = [] })) }
+pub fn put_thread(text: &mut Vec<u8>, thread: usize, report: &RunReport) -> Result<(), Memory>
+    ensures { OnOk result (text.new.items ≡ text.old.items ++ thread_line thread report.now) }
 {
     text.extend_from_slice(b"thread ")?;
     put_decimal(text, thread as u64)?;
     text.push(b' ')?;
-    put_end(text, end)?;
+    put_end(text, report.end())?;
     text.extend_from_slice(b" steps ")?;
-    put_decimal(text, u64::from(steps))?;
+    put_decimal(text, u64::from(report.steps()))?;
     text.extend_from_slice(b" instr ")?;
-    put_decimal(text, u64::from(instr))?;
+    put_decimal(text, u64::from(report.instr()))?;
     text.push(b'\n')?;
     Ok(())
 }

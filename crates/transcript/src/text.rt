@@ -12,7 +12,7 @@ use std::alloc::Global;
 fn put_report(text: &mut Vec<u8>, thread: usize, report: &RunReport) -> Result<(), Memory>
     ensures { OnOk result (text.new.items ≡ text.old.items ++ (thread_line thread report.now ++ flat_map out_line report.now.output)) }
 {
-    put_thread(text, thread, report.end(), report.steps(), report.instr())?;
+    put_thread(text, thread, report)?;
     put_outputs(text, report.output())
 }
 
