@@ -20,7 +20,7 @@ pub use memory::Memory;
 pub use put::{put_u16, put_u32};
 pub use sink::{Sink, SinkFault};
 pub use store::{Store, StoreFault};
-pub use tag::{Cell, Event, Tag};
+pub use tag::{Cell, Event, Tag, pack, unpack};
 
 #[cfg(test)]
 mod tests;
