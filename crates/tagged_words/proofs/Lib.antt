@@ -2,3 +2,5 @@ pub mod Places
 pub mod Held
 pub mod Keeps
 pub mod Seats
+pub mod Shares
+pub mod Bounds

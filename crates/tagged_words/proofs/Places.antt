@@ -1,5 +1,5 @@
 -- Places in lists.
-use Rattle.std.proofs.Common.{◌≡◌, ℕ, zero, suc, ◌+◌, ◌<◌, Bool, true, false, cond, eqb, List, [], ◌∷◌, ◌++◌, length, get_or, refl, sym, ◌∙◌, ap, subst, arith, inl, inr, ◌⊎◌}
+use Rattle.std.proofs.Common.{◌≡◌, ℕ, zero, suc, ◌+◌, ◌<◌, Bool, true, false, cond, eqb, List, [], ◌∷◌, ◌++◌, length, get_or, take, refl, sym, ◌∙◌, ap, subst, arith, inl, inr, ◌⊎◌}
 use Rattle.std.specs.Prelude.{Contains, Some, slice_get}
 use Rattle.std.proofs.Math.Logic.{⊎_elim}
 use Rattle.std.proofs.lemmas.List.{length_push, get_or_push}
@@ -44,3 +44,12 @@ part-contains t (e ∷ list) step c = go (part-contains t list step) (cases_Bool
     go : (Contains (part t list) step → (x : WordStep) × Contains list x × (step_of x ≡ step)) → (eqb e.thread t ≡ true) ⊎ (eqb e.thread t ≡ false) → (x : WordStep) × Contains (e ∷ list) x × (step_of x ≡ step)
     go ih (inl q) = first ih (subst (λ (b : Bool). Contains (cond b (step_of e ∷ []) [] ++ part t list) step) q c)
     go ih (inr q) = later (ih (subst (λ (b : Bool). Contains (cond b (step_of e ∷ []) [] ++ part t list) step) q c))
+
+take_next : {A : Type 0} (l : List A) (i : ℕ) (a : A) → get_elem? l i ≡ some a → take (suc i) l ≡ take i l ++ a ∷ []
+take_next [] i a e = absurd (some-ne-none a (sym e))
+take_next (x ∷ xs) zero a e = λ k. some-injective x a e k ∷ []
+take_next (x ∷ xs) (suc i) a e = λ k. x ∷ take_next xs i a e k
+
+-- one more element of the front
+pub take_one_more : {A : Type 0} (l : List A) (i : ℕ) (a : A) → get_elem? l i ≡ some a → take (i + 1) l ≡ take i l ++ a ∷ []
+take_one_more l i a e = let n : i + 1 ≡ suc i = omega arith in ap (λ (k : ℕ). take k l) n ∙ take_next l i a e

@@ -14,6 +14,10 @@ use Rattle.tagged_words.specs.declared.words.Cond.TheVariants.{Won, Lost}
 abbrev pub IsOf : SharedWords → Progress → Type 0
 IsOf words hand = hand.words ≡ words
 
+-- the hand of a thread that has taken no step
+abbrev pub new_hand : SharedWords → ℕ → Progress
+new_hand words thread = record { words = words; thread = thread; steps = [] }
+
 -- the hand has taken one step more
 abbrev pub Takes : Progress → Want → Option Cell → Progress → Type 0
 Takes before want found after = after ≡ record { words = before.words; thread = before.thread; steps = before.steps ++ record { want = want; found = found } ∷ [] }

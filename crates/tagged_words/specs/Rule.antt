@@ -1,5 +1,5 @@
 -- The rule of the shared words, which holds between any two of their steps, and what each kind of step tells its seat.
-use Rattle.std.specs.Prelude.{◌≡◌, ℕ, zero, suc, ◌+◌, ◌/◌, ◌%◌, ◌^◌, ◌<◌, ◌≤◌, Option, Some, None, IfSome, List, [], ◌∷◌, ◌++◌, map, length, All}
+use Rattle.std.specs.Prelude.{◌≡◌, ℕ, zero, suc, ◌+◌, ◌/◌, ◌%◌, ◌^◌, ◌<◌, ◌≤◌, Option, Some, None, IfSome, List, [], ◌∷◌, ◌++◌, map, length, All, Contains}
 use mathlib.Core.Option.{some}
 use lib.ListN.{get_elem?}
 use Rattle.atomic_table.specs.Table.{State, Me, Step as TableStep}
@@ -11,7 +11,7 @@ use Rattle.replay_model.specs.declared.Want.{Want}
 use Rattle.replay_model.specs.Steps.{Step, wrote, initial_cells}
 use Rattle.replay_model.specs.declared.Want.TheVariants.{Load, Store, Swap, Cond}
 use Rattle.replay_model.specs.WordSteps.{WordStep, part, Folds}
-use Rattle.tagged_words.specs.Views.{Start, Part, View}
+use Rattle.tagged_words.specs.Views.{Start, Part, View, Progress}
 
 -- each number is held by one seat at most, and the list beside it is the number's part of all steps
 abbrev pub FitsPart : List WordStep → (ℕ → ℕ) → ℕ → Part → Type 0
@@ -44,6 +44,10 @@ everyone start = record { start = start; parts = fresh 0 start.threads }
 -- what a seat has: its view, and no slot
 abbrev pub Knows : Type 0
 Knows = Me (Unit {0}) View
+
+-- a seat that has so many numbers from `from` on, whose threads have taken no step
+abbrev pub seat_of : Start → ℕ → ℕ → Knows
+seat_of start from count = (record { start = start; parts = fresh from count }, [])
 
 -- a seat that has one number
 abbrev pub alone : Start → ℕ → List Step → Knows
@@ -123,3 +127,7 @@ pub record IsTable (table : TableId) (start : Start) : Type 0 where
   pub slots : table.slots ≡ 0
   pub some_thread : 1 ≤ start.threads
   pub few : start.threads ≤ 15
+
+-- the view has the number and the list of this hand
+abbrev pub HasPart : View → Progress → Type 0
+HasPart v hand = Contains v.parts (record { thread = hand.thread; steps = hand.steps })
