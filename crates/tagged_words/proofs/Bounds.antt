@@ -1,7 +1,8 @@
 -- The words as they begin, and as all hands leave them.
-use Rattle.std.proofs.Common.{◌≡◌, ℕ, zero, suc, ◌+◌, ◌*◌, ◌/◌, ◌%◌, ◌^◌, ◌<◌, ◌≤◌, List, [], ◌∷◌, ◌++◌, map, length, refl, sym, ◌∙◌, ap, subst, arith}
-use Rattle.std.specs.Prelude.{All, Contains, Some, None, slice_index_or}
+use Rattle.std.proofs.Common.{◌≡◌, ℕ, zero, suc, ◌+◌, ◌/◌, ◌%◌, ◌^◌, ◌<◌, ◌≤◌, List, [], ◌∷◌, ◌++◌, map, take, refl, sym, ◌∙◌, ap, subst, arith}
+use Rattle.std.specs.Prelude.{All, None, slice_index_or}
 use Rattle.std.proofs.lemmas.Nat.{div-mul-add}
+use Rattle.std.proofs.lemmas.List.{map_push}
 use Rattle.std.proofs.lemmas.List.Elements.{All-nil, All-weaker, All-contains}
 use mathlib.Core.Option.{some, some-injective, some-ne-none}
 use lib.ListN.{get_elem?}
@@ -14,6 +15,7 @@ use Rattle.replay_model.specs.WordSteps.{WordStep, part, Folds}
 use Rattle.tagged_words.specs.Views.{Start, Part, View, SharedWords, Progress}
 use Rattle.tagged_words.specs.Rule.{FitsPart, FitsIn, Recorded, everyone, fresh, HasPart}
 use Rattle.tagged_words.specs.Hands.{HasHand, AreAllSteps}
+use Rattle.tagged_words.proofs.Places.{take_one_more}
 use Rattle.tagged_words.proofs.Shares.{fresh_parts}
 use Rattle.tagged_words.proofs.Held.{writer_at}
 
@@ -59,6 +61,12 @@ tags_in : (cells : List Cell) → ((word : ℕ) → IsWriter (slice_index_or cel
 tags_in [] w i n at = absurd (some-ne-none n (sym at))
 tags_in (c ∷ cs) w zero n at = subst (λ (k : ℕ). IsTag (k % 2 ^ 32)) (some-injective (packed c) n at) (packed-IsTag c (w 0))
 tags_in (c ∷ cs) w (suc i) n at = tags_in cs (λ word. w (suc word)) i n at
+
+-- one more cell that was read
+pub read_more : (words : List ℕ) (i n : ℕ) (cells after : List Cell) (cell : Cell) → get_elem? words i ≡ some n → cell ≡ unpacked n → cells ≡ map unpacked (take i words) → after ≡ cells ++ cell ∷ [] →
+    after ≡ map unpacked (take (i + 1) words)
+read_more words i n cells after cell at is read more =
+    more ∙ (λ k. read k ++ is k ∷ []) ∙ sym (ap (map unpacked) (take_one_more words i n at) ∙ map_push unpacked (take i words) n)
 
 module _ (start : Start) (few : start.threads ≤ 15) (id : ℕ) (v : View) (words : List ℕ) (slots : List (Unit {0})) (last : Final (Seen (Recorded start) id v) words slots) where
   -- each word has a tag in its low half

@@ -1,5 +1,5 @@
 -- What the words hold under their rule: packed cells, whose tags name steps that were taken.
-use Rattle.std.proofs.Common.{◌≡◌, ℕ, ◌%◌, ◌^◌, ◌<◌, ◌≤◌, List, [], ◌∷◌, map, length, sym, ◌∙◌, ap, subst, arith, inl, inr}
+use Rattle.std.proofs.Common.{◌≡◌, ℕ, ◌%◌, ◌^◌, ◌<◌, ◌≤◌, List, length, sym, ◌∙◌, ap, subst, arith, inl, inr}
 use Rattle.std.specs.Prelude.{Contains, Some, slice_index_or}
 use Rattle.std.proofs.lemmas.List.{get_or-map}
 use Rattle.std.proofs.lemmas.List.Elements.{All-contains}
@@ -10,7 +10,6 @@ use Rattle.light_base.specs.Cells.{packed, unpacked}
 use Rattle.light_base.proofs.Cells.{unpacked-packed, packed-IsTag}
 use Rattle.replay_model.specs.Steps.{Step, word_of, no_cell}
 use Rattle.replay_model.specs.WordSteps.{WordStep, part}
-use Rattle.replay_model.proofs.WordSteps.{step_of}
 use Rattle.replay_model.proofs.WordCells.{IsFromList, IsKnown, known_end, one_cell}
 use Rattle.tagged_words.specs.Views.{Start, View}
 use Rattle.tagged_words.specs.Rule.{FitsIn, IsKept}
@@ -50,4 +49,4 @@ module _ (start : Start) (few : start.threads ≤ 15) (s : State (Unit {0}) View
         let (e, is_in, is) = part-contains thread list step c in
         let from : IsFromList start.initial list (word_of e.want) cell = known.found e cell is_in (ap (λ (x : Step). x.found) is ∙ f) in
         one_cell start.initial list cells known word (slice_index_or cells word no_cell) cell (known.cells word)
-            (subst (λ (k : ℕ). IsFromList start.initial list k cell) (ap (λ (x : Step). word_of x.want) is ∙ w) from) q
+        (subst (λ (k : ℕ). IsFromList start.initial list k cell) (ap (λ (x : Step). word_of x.want) is ∙ w) from) q

@@ -8,20 +8,20 @@ use Rattle.std.proofs.lemmas.Bool.{cases_Bool}
 use mathlib.Core.Option.{none, some}
 use lib.ListN.{get_elem?}
 use prog.Atomic.{either}
-use Rattle.atomic_table.specs.Table.{State, Step as TableStep, step, keeps, stepped, Allows}
+use Rattle.atomic_table.specs.Table.{State, step, keeps, stepped, Allows}
 use Rattle.atomic_table.proofs.Lists.{at_set, exchanged}
 use Rattle.light_base.specs.declared.tag.Cell.{Cell}
 use Rattle.light_base.specs.declared.tag.Event.{Event}
-use Rattle.light_base.specs.Tags.{IsTag, bits_of, writer_of}
+use Rattle.light_base.specs.Tags.{IsTag, writer_of}
 use Rattle.light_base.specs.Cells.{packed, unpacked}
 use Rattle.light_base.proofs.Cells.{packed-unpacked}
 use Rattle.replay_model.specs.declared.Want.{Want}
 use Rattle.replay_model.specs.declared.Want.TheVariants.{Load, Store, Swap, Cond}
-use Rattle.replay_model.specs.Steps.{Step, same_tag, word_of, wrote, no_cell, found_in, put, initial_cells}
-use Rattle.replay_model.specs.WordSteps.{WordStep, event_of, part, Folds}
+use Rattle.replay_model.specs.Steps.{Step, same_tag, word_of, wrote, found_in, put, initial_cells}
+use Rattle.replay_model.specs.WordSteps.{WordStep, part, Folds}
 use Rattle.replay_model.proofs.Tags.{same_tag-true, same_tag-same}
 use Rattle.replay_model.proofs.WordSteps.{step_of, part_push, part_push_other, Folds-push}
-use Rattle.tagged_words.specs.Views.{Start, Part, View}
+use Rattle.tagged_words.specs.Views.{Start, View}
 use Rattle.tagged_words.specs.Rule.{FitsPart, FitsIn, IsKept, Recorded, Knows, alone, IsPart, loads, stores, swaps, conds}
 use Rattle.tagged_words.proofs.Held.{cell_is, tag_is, same_cell}
 

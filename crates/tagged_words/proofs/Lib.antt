@@ -4,3 +4,4 @@ pub mod Keeps
 pub mod Seats
 pub mod Shares
 pub mod Bounds
+pub mod Sources

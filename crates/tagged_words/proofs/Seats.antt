@@ -1,6 +1,6 @@
 -- What a call at the words may do, by what is known of the hand and of the words.
-use Rattle.std.proofs.Common.{◌≡◌, ℕ, ◌+◌, ◌-◌, ◌/◌, ◌%◌, ◌^◌, ◌<◌, ◌≤◌, eqb, List, length, sym, ◌∙◌, ap, subst, arith}
-use Rattle.std.specs.Prelude.{Contains, Option, Some, None, slice_get}
+use Rattle.std.proofs.Common.{◌≡◌, ℕ, ◌+◌, ◌-◌, ◌%◌, ◌^◌, ◌<◌, eqb, List, length, sym, ◌∙◌, ap, subst, arith}
+use Rattle.std.specs.Prelude.{Contains, Option, Some, slice_get}
 use mathlib.Core.Option.{none}
 use prog.Atomic.{either}
 use Rattle.atomic_table.specs.Table.{step, Allows}
@@ -61,9 +61,9 @@ module _ (table seat_table : TableId) (start : Start) (is : IsTable table start)
           subst P seat_is (may_load start is.few table.slots id word thread (own_steps me.0.parts) here few_steps within),
         )
 
-    module _ (new : ℕ) (fits : new < 2 ^ 64) (tag : IsTag (new % 2 ^ 32)) (by : writer_of (new % 2 ^ 32) ≡ Some (record { thread = thread; step = count + 1 })) where
+    module _ (new : ℕ) (fits : new < 2 ^ 64) (tag : IsTag (new % 2 ^ 32)) (by : writer_of (new % 2 ^ 32) ≡ Some (record { thread = hand.thread; step = length hand.steps + 1 })) where
       by_next : writer_of (new % 2 ^ 32) ≡ Some (event thread (own_steps me.0.parts))
-      by_next = by ∙ (λ i. Some (record { thread = thread; step = sym seated.counted i + 1 }))
+      by_next = by ∙ ap (λ (h : Progress). Some (event h.thread h.steps)) (sym hand_is)
 
       pub store_allowed : (seat_table ≡ table) × (word < table.words) × Allows (Recorded start) table.slots id me word (λ _. new) (λ _. stores (step table.slots word new 0 none) me new)
       store_allowed =

@@ -1,18 +1,21 @@
 -- Numbers go from one seat to another, with their lists.
-use Rattle.std.proofs.Common.{◌≡◌, ℕ, zero, suc, ◌+◌, ◌-◌, ◌<◌, ◌≤◌, ◌≢◌, Bool, cond, eqb, List, [], ◌∷◌, ◌++◌, length, refl, sym, ◌∙◌, ap, subst, arith}
+use Rattle.std.proofs.Common.{◌≡◌, ℕ, zero, suc, ◌+◌, ◌-◌, ◌<◌, ◌≤◌, ◌≢◌, cond, eqb, List, [], ◌∷◌, ◌++◌, map, length, refl, sym, ◌∙◌, ap, subst, zero-add, arith}
 use Rattle.std.specs.Prelude.{All, Contains, slice_set}
 use Rattle.std.proofs.Math.Logic.{⊎_elim}
 use Rattle.std.proofs.lemmas.List.{length-set}
 use Rattle.std.proofs.lemmas.List.Elements.{All-nil, All-cons, All-head, All-tail, All-weaker, All-append, Contains-push, Contains-append_left}
+use Rattle.std.specs.List.{range_with_len}
+use Rattle.std.proofs.lemmas.List.FromFn.{map-range_with_len_more}
 use Rattle.std.proofs.lemmas.Bool.{eq-eqb, ne_eqb, cond-true, cond-false}
 use mathlib.Core.Option.{some}
 use lib.ListN.{get_elem?}
 use Rattle.atomic_table.specs.Table.{State, Splits, Joins}
 use Rattle.atomic_table.proofs.Lists.{at_set}
 use Rattle.replay_model.specs.Steps.{Cell, Step}
-use Rattle.replay_model.specs.WordSteps.{WordStep, part}
-use Rattle.tagged_words.specs.Views.{Start, Part, View, Progress}
+use Rattle.replay_model.specs.WordSteps.{WordStep}
+use Rattle.tagged_words.specs.Views.{Start, Part, View, SharedWords, Progress}
 use Rattle.tagged_words.specs.Rule.{FitsPart, IsKept, Recorded, Knows, alone, fresh, seat_of, first_part, other_parts, joined, spent, HasPart}
+use Rattle.tagged_words.specs.Hands.{new_hand}
 use Rattle.tagged_words.proofs.Places.{at_end}
 
 -- the numbers of a seat that gave none away yet
@@ -152,3 +155,9 @@ gathered_more me other after hand done is joins have = All-cons (HasPart after.0
     old : All (HasPart after.0) done
     old = All-weaker (HasPart me.0) (HasPart after.0)
         (λ h c. subst (λ (ps : List Part). Contains ps (record { thread = h.thread; steps = h.steps })) (sym both) (Contains-append_left me.0.parts ((record { thread = hand.thread; steps = hand.steps }) ∷ []) (record { thread = h.thread; steps = h.steps }) c)) done have
+
+-- one more hand that was dealt
+pub one_more_hand : (words : SharedWords) (n number total : ℕ) (hands after : List Progress) (seat_words : SharedWords) (hand : Progress) → hands ≡ map (new_hand words) (range_with_len 0 n) → hand ≡ new_hand seat_words number →
+    seat_words ≡ words → number ≡ n → n + 1 ≡ total → after ≡ hands ++ hand ∷ [] → after ≡ map (new_hand words) (range_with_len 0 total)
+one_more_hand words n number total hands after seat_words hand dealt is same at count more =
+    more ∙ (λ i. dealt i ++ (is ∙ (λ j. new_hand (same j) (at j))) i ∷ []) ∙ sym (map-range_with_len_more (new_hand words) 0 n n (zero-add n)) ∙ ap (λ (k : ℕ). map (new_hand words) (range_with_len 0 k)) count

@@ -21,11 +21,7 @@ use std::snapshot::Snapshot;
 impl Words {
     /// Words with these initial values, none of them written yet, and a hand for each of so many threads, numbered from 0
     /// on.
-    pub fn open(
-        alloc: Global,
-        initial: &[u32],
-        threads: u8,
-    ) -> Result<(Words, Vec<Hand>), Memory>
+    pub fn open(alloc: Global, initial: &[u32], threads: u8) -> Result<(Words, Vec<Hand>), Memory>
         requires words { (1 ≤ length initial.now) × (length initial.now ≤ 4096) }
         requires threads { (1 ≤ threads) × (threads ≤ 15) }
         ensures start { IfOk result (λ r. r.0.start ≡ record { initial = initial.now; threads = threads }) }

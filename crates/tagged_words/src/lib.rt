@@ -7,7 +7,10 @@
 #![tactic(auto)]
 
 mod ends;
+mod laws;
 mod rule;
 mod words;
+mod writes;
 
+pub use laws::source_law;
 pub use words::{Cond, Hand, Seen, Words};

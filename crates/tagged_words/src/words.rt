@@ -1,9 +1,9 @@
 // The words and the threads' tokens, with the four atomic steps.
 ghost use Rattle.std.specs.Prelude.{◌≡◌, ◌+◌, ◌/◌, ◌%◌, ◌^◌, ◌<◌, Some, None, length};
-ghost use Rattle.light_base.specs.Tags.{HasTag, IsTag, writer_of};
+ghost use Rattle.light_base.specs.Tags.{IsTag, writer_of};
 ghost use Rattle.replay_model.specs.declared.Want.TheVariants.{Load, Store, Swap};
 
-use crate::rule::{Conds, Knowledge, Loads, OneList, Origin, Stores, Swaps};
+use crate::rule::{Knowledge, Loads, OneList, Origin};
 use atomic_table::{Seat, Table};
 use light_base::{Cell, Event, pack, unpack};
 use std::alloc::Global;
@@ -82,12 +82,28 @@ impl Hand {
     {
         self.steps
     }
+
+    // The number of the cell that the next step writes.
+    fn next_number(&self, value: u32) -> u64
+        requires { length self.now.steps + 1 < 2 ^ 28 }
+        ensures tag { IsTag (result % 2 ^ 32) }
+        ensures by { writer_of (result % 2 ^ 32) ≡ Some record { thread = self.now.thread; step = length self.now.steps + 1 } }
+        ensures value { result / 2 ^ 32 ≡ value }
+    {
+        let event = Event {
+            thread: self.thread,
+            step: self.steps + 1,
+        };
+        let tag = event.tag();
+        pack(Cell { value, tag })
+    }
 }
 
 impl Words {
     ghost use Rattle.tagged_words.specs.Hands.{IsOf, Takes, IsPartOfAll, IsSeenBy, CondGives};
 
     /// The cell of a word, value and tag of one moment.
+    #[tactic(auto, using(crate::proofs::Seats::last_step))]
     pub fn load(&self, hand: &mut Hand, word: u16) -> (Cell, Seen)
         requires own { IsOf self.now hand.old }
         requires room { length hand.old.steps + 1 < 2 ^ 28 }
@@ -122,12 +138,10 @@ impl Words {
         ensures own { IsOf self.now hand.new }
         ensures part { IsPartOfAll hand.new }
     {
-        let new = written(hand.thread, hand.steps + 1, value);
-        self.table
-            .shared
-            .store::<Stores>(&mut hand.seat, usize::from(word), new);
-        hand.steps += 1;
+        let new = hand.next_number(value);
+        self.store_number(hand, word, new);
     }
+
     /// Writes the value with the tag of this step, and gives the cell that stood there before.
     pub fn swap(&self, hand: &mut Hand, word: u16, value: u32) -> Cell
         requires own { IsOf self.now hand.old }
@@ -137,13 +151,8 @@ impl Words {
         ensures own { IsOf self.now hand.new }
         ensures part { IsPartOfAll hand.new }
     {
-        let new = written(hand.thread, hand.steps + 1, value);
-        let found = self
-            .table
-            .shared
-            .swap::<Swaps>(&mut hand.seat, usize::from(word), new);
-        hand.steps += 1;
-        unpack(found)
+        let new = hand.next_number(value);
+        unpack(self.swap_number(hand, word, new))
     }
 
     /// Writes the value with the tag of this step where the word that was loaded still has the tag that was seen, which
@@ -158,29 +167,12 @@ impl Words {
         ensures part { IsPartOfAll hand.new }
     {
         let old = pack(seen.cell);
-        let new = written(hand.thread, hand.steps + 1, value);
-        let found = self.table.shared.compare_exchange::<Conds>(
-            &mut hand.seat,
-            usize::from(seen.word),
-            old,
-            new,
-        );
-        hand.steps += 1;
+        let new = hand.next_number(value);
+        let found = self.exchange_number(hand, seen.word, old, new);
         if found == old {
             Cond::Won
         } else {
             Cond::Lost(unpack(found))
         }
     }
-}
-
-// The number of the cell that this step of the thread writes.
-fn written(thread: u8, step: u32, value: u32) -> u64
-    requires { HasTag record { thread = thread; step = step } }
-    ensures tag { IsTag (result % 2 ^ 32) }
-    ensures by { writer_of (result % 2 ^ 32) ≡ Some record { thread = thread; step = step } }
-    ensures value { result / 2 ^ 32 ≡ value }
-{
-    let tag = Event { thread, step }.tag();
-    pack(Cell { value, tag })
 }

@@ -1,9 +1,9 @@
-use Rattle.std.proofs.Common.{◌≡◌, List, [], ◌∷◌, ◌++◌, refl, sym, ◌∙◌, ap, subst, arith}
-use Rattle.std.specs.Prelude.{All, Contains, Some}
+use Rattle.std.proofs.Common.{◌≡◌, List, [], ◌∷◌, ◌++◌, sym, ◌∙◌, ap, subst, arith}
+use Rattle.std.specs.Prelude.{All, Some}
 use Rattle.std.proofs.lemmas.List.{append_assoc, nil_from_length}
-use Rattle.std.proofs.lemmas.List.Elements.{All-cons, All-pop, All-weaker, Contains-append_left, Contains-append_right}
-use Rattle.tagged_words.specs.Views.{Part, View, SharedWords, Progress}
-use Rattle.tagged_words.specs.Rule.{Knows, HasPart, joined}
+use Rattle.std.proofs.lemmas.List.Elements.{All-pop}
+use Rattle.tagged_words.specs.Views.{SharedWords, Progress}
+use Rattle.tagged_words.specs.Rule.{Knows, HasPart}
 use Rattle.tagged_words.specs.Hands.{IsOf}
 use Rattle.tagged_words.proofs.Shares.{may_join, gathered_more}
 use Rattle.tagged_words.proofs.words.Words.gather.Goals as goal
