@@ -128,8 +128,8 @@ may_join start id v other w s (list, cells, holder, kept) at ne there = (
 )
 
 -- the new seat has the first number alone
-pub dealt_one : (start : Start) (from total : ℕ) (me first : Knows) → from < total → me ≡ seat_of start from (total - from) → first ≡ (first_part me.0, []) → first ≡ alone start from []
-dealt_one start from total me first low is e =
+pub dealt_one : (start : Start) (from total : ℕ) (me new : Knows) → from < total → me ≡ seat_of start from (total - from) → new ≡ (first_part me.0, []) → new ≡ alone start from []
+dealt_one start from total me new low is e =
     e ∙ ap (λ (m : Knows). (first_part m.0, [])) (is ∙ ap (λ (ps : List Part). (record { start = start; parts = ps }, [])) (fresh_more from total low))
 
 -- and the old one the others

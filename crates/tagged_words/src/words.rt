@@ -176,3 +176,15 @@ impl Words {
         }
     }
 }
+
+// Threads share the words, and a hand may move to the thread that it is for.
+fn crosses(words: &Words, hand: Hand) -> Hand {
+    is_shared(words);
+    is_moved(hand)
+}
+
+fn is_shared<T: Send + Sync>(_: &T) {}
+
+fn is_moved<T: Send>(value: T) -> T {
+    value
+}
