@@ -5,3 +5,4 @@ pub mod Seats
 pub mod Shares
 pub mod Bounds
 pub mod Sources
+pub mod Hands

@@ -112,6 +112,8 @@ impl Words {
         ensures seen { result.1 ≡ record { step = length hand.new.steps; word = word; cell = result.0 } }
         ensures given { IsSeenBy hand.new result.1 }
         ensures own { IsOf self.now hand.new }
+        ensures thread { hand.new.thread ≡ hand.old.thread }
+        ensures count { length hand.new.steps ≡ length hand.old.steps + 1 }
         ensures part { IsPartOfAll hand.new }
     {
         let found = self
@@ -136,6 +138,8 @@ impl Words {
         requires inside { word < length self.now.start.initial }
         ensures step { Takes hand.old (Store word value) None hand.new }
         ensures own { IsOf self.now hand.new }
+        ensures thread { hand.new.thread ≡ hand.old.thread }
+        ensures count { length hand.new.steps ≡ length hand.old.steps + 1 }
         ensures part { IsPartOfAll hand.new }
     {
         let new = hand.next_number(value);
@@ -149,6 +153,8 @@ impl Words {
         requires inside { word < length self.now.start.initial }
         ensures step { Takes hand.old (Swap word value) (Some result) hand.new }
         ensures own { IsOf self.now hand.new }
+        ensures thread { hand.new.thread ≡ hand.old.thread }
+        ensures count { length hand.new.steps ≡ length hand.old.steps + 1 }
         ensures part { IsPartOfAll hand.new }
     {
         let new = hand.next_number(value);
@@ -164,6 +170,8 @@ impl Words {
         requires seen { IsSeenBy hand.old seen.now }
         ensures step { CondGives hand.old seen.now value result hand.new }
         ensures own { IsOf self.now hand.new }
+        ensures thread { hand.new.thread ≡ hand.old.thread }
+        ensures count { length hand.new.steps ≡ length hand.old.steps + 1 }
         ensures part { IsPartOfAll hand.new }
     {
         let old = pack(seen.cell);

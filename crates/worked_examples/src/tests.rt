@@ -5,6 +5,7 @@ use std::alloc::AllocError;
 use std::test::Fail;
 
 mod recordings;
+mod shared_words;
 
 fn is_shared<T: Send + Sync>(value: &T) -> &T {
     value
