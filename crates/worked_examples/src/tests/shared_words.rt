@@ -13,7 +13,7 @@ use tagged_words::{Cond, Hand, Words};
 
 const THREADS: u8 = 15;
 
-const ROUNDS: u32 = 40;
+const ROUNDS: u32 = 200;
 
 const INITIAL: [u32; 2] = [5, 6];
 
@@ -123,7 +123,7 @@ fn play(alloc: Global, words: &Words, mut hand: Hand) -> Played
 {
     let mut accesses = Vec::new(alloc);
     for round in 0..ROUNDS {
-        let value = u32::from(hand.thread()) * 1000 + round;
+        let value = u32::from(hand.thread()) * 10_000 + round;
         let (cell, seen) = words.load(&mut hand, 0);
         let loaded = cell;
         note(&mut accesses, &hand, 0, Some(loaded), None);
@@ -133,8 +133,8 @@ fn play(alloc: Global, words: &Words, mut hand: Hand) -> Played
         }
         words.store(&mut hand, 1, value);
         note(&mut accesses, &hand, 1, None, Some(value));
-        let before = words.swap(&mut hand, 0, value + 500);
-        note(&mut accesses, &hand, 0, Some(before), Some(value + 500));
+        let before = words.swap(&mut hand, 0, value + 5000);
+        note(&mut accesses, &hand, 0, Some(before), Some(value + 5000));
         let (other, _) = words.load(&mut hand, 1);
         note(&mut accesses, &hand, 1, Some(other), None);
     }
@@ -189,9 +189,10 @@ fn was_written(logs: &[Vec<Access>], word: u16, cell: Cell) -> bool {
     let Some(log) = logs.get(usize::from(event.thread)) else {
         return false;
     };
-    log.iter().any(|access| access.step == event.step
-        && access.word == word
-        && access.wrote == Some(cell.value))
+    let Some(access) = log.get(event.step as usize - 1) else {
+        return false;
+    };
+    access.word == word && access.wrote == Some(cell.value)
 }
 
 // The numbers of the tags that writing steps found in word 0 and of the one that they left there, and those of the tags
