@@ -9,6 +9,7 @@ mod numbers;
 mod outside;
 mod programs;
 mod recordings;
+mod shared_words;
 mod texts;
 
 fn is_shared<T: Send + Sync>() {}
