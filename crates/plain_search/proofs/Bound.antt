@@ -5,7 +5,8 @@ use Rattle.std.proofs.lemmas.Bool.{cases_Bool, and_from}
 use Rattle.std.proofs.lemmas.List.Sums.{sum_by-cons}
 use Rattle.std.proofs.lemmas.Nat.{pow_pos}
 use Rattle.std.proofs.Math.Nat.{pow-suc}
-use Rattle.plain_search.specs.Edges.{Edge, is_acyclic, Implies}
+use Rattle.plain_search.specs.declared.Edge.{Edge}
+use Rattle.plain_search.specs.Edges.{is_acyclic, Implies}
 use Rattle.plain_search.specs.Searches.{Pair, PairProblem, Outcome, or_else, at_pair, search, outcome, dead_ends, is_open, open_pairs}
 use Rattle.plain_search.proofs.Rankings.{acyclic-implied, Holds-split, Holds-join}
 use Rattle.plain_search.proofs.Outcomes.{or_else-found, or_else-failed}

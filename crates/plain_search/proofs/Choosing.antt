@@ -3,7 +3,8 @@ use Rattle.std.proofs.Common.{◌≡◌, ℕ, suc, ◌<◌, true, false, List, [
 use Rattle.std.specs.Prelude.{All}
 use Rattle.std.proofs.lemmas.Bool.{cases_Bool, cond-true, cond-false, both_ways}
 use Rattle.std.proofs.lemmas.List.Elements.{All-nil, All-cons, All-head, All-tail}
-use Rattle.plain_search.specs.Edges.{Edge, is_acyclic, Holds}
+use Rattle.plain_search.specs.declared.Edge.{Edge}
+use Rattle.plain_search.specs.Edges.{is_acyclic, Holds}
 use Rattle.plain_search.specs.Searches.{Pair, PairProblem, problem_of, HoldsOneSide, Solves, Side, Lesser, Greater, chosen, HasChoice, Outcome, nothing, at_pair, search, outcome}
 use Rattle.plain_search.proofs.Rankings.{ranked-acyclic, acyclic-ranked, Holds-split, Holds-join}
 use Rattle.plain_search.proofs.Outcomes.{Counts, found_left, found_right, found_cases, at_pair-counts}

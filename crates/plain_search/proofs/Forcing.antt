@@ -3,7 +3,8 @@ use Rattle.std.proofs.Common.{◌≡◌, ℕ, true, false, List, [], ◌∷◌, 
 use Rattle.std.specs.Prelude.{All, Contains}
 use Rattle.std.proofs.lemmas.Bool.{cases_Bool, both_ways, false_from_ne_true}
 use Rattle.std.proofs.lemmas.List.Elements.{All-contains}
-use Rattle.plain_search.specs.Edges.{Edge, is_acyclic, Holds, Implies}
+use Rattle.plain_search.specs.declared.Edge.{Edge}
+use Rattle.plain_search.specs.Edges.{is_acyclic, Holds, Implies}
 use Rattle.plain_search.specs.Searches.{Pair, PairProblem, problem_of, HoldsOneSide, Outcome, at_pair, search, outcome, IsNoWorse}
 use Rattle.plain_search.proofs.Rankings.{acyclic-implied, cyclic-unranked, Holds-split, Holds-join}
 use Rattle.plain_search.proofs.Outcomes.{or_else-found, or_else-failed, at_pair-no_worse}

@@ -2,7 +2,8 @@
 use Rattle.std.proofs.Common.{◌≡◌, ℕ, ◌<◌, true, List, [], ◌∷◌, ◌++◌, sym, ap, subst, arith, inl, inr, ◌⊎◌}
 use Rattle.std.specs.Prelude.{All}
 use Rattle.std.proofs.lemmas.List.Elements.{All-nil, All-cons, All-head, All-tail}
-use Rattle.plain_search.specs.Edges.{Edge, is_acyclic, Holds}
+use Rattle.plain_search.specs.declared.Edge.{Edge}
+use Rattle.plain_search.specs.Edges.{is_acyclic, Holds}
 use Rattle.plain_search.proofs.Walks.{Reaches, Arrives, reaches-view}
 use Rattle.plain_search.proofs.Rankings.{Rises, reaches-rises, acyclic-parts, acyclic-from, acyclic-ranked, Holds-split}
 

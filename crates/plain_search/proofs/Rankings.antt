@@ -4,7 +4,8 @@ use Rattle.std.specs.Prelude.{◌||◌, not}
 use Rattle.std.proofs.lemmas.Bool.{and_parts, and_from, cases_Bool, not-true, not_from_false, false_from_ne_true, both_ways}
 use Rattle.std.proofs.lemmas.List.Elements.{All-nil, All-cons, All-head, All-tail, All-append}
 use Rattle.std.proofs.lemmas.List.{get_or_default}
-use Rattle.plain_search.specs.Edges.{Edge, LeadsTo, reaches, is_acyclic, Holds, Implies}
+use Rattle.plain_search.specs.declared.Edge.{Edge}
+use Rattle.plain_search.specs.Edges.{LeadsTo, reaches, is_acyclic, Holds, Implies}
 use Rattle.plain_search.proofs.Walks.{Reaches, Arrives, arrives-of, arrives-test, reaches-view, reaches-nil, reaches-trans, reaches-edge, walk-reaches, reaches-with, reaches-without}
 
 abbrev pub Rises : (ℕ → ℕ) → Edge → Type 0

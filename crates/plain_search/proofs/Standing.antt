@@ -3,7 +3,8 @@ use Rattle.std.proofs.Common.{◌≡◌, ℕ, ◌+◌, ◌≤◌, true, false, c
 use Rattle.std.specs.Prelude.{Some, None, All}
 use Rattle.std.proofs.lemmas.Bool.{cases_Bool, both_ways, false_from_ne_true}
 use Rattle.std.proofs.lemmas.List.Elements.{All-nil, All-cons, All-head, All-tail}
-use Rattle.plain_search.specs.Edges.{Edge, is_acyclic, Holds, Implies}
+use Rattle.plain_search.specs.declared.Edge.{Edge}
+use Rattle.plain_search.specs.Edges.{is_acyclic, Holds, Implies}
 use Rattle.plain_search.specs.Searches.{Pair, PairProblem, HoldsOneSide, Solves, Outcome, nothing, or_else, at_pair, search, outcome, problem_of, IsNoWorse}
 use Rattle.plain_search.specs.Standing.{IsRestOf, resume, Stands}
 use Rattle.plain_search.specs.StandingLaws.{Ends, Turns, Forces}

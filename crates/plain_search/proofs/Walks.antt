@@ -2,7 +2,8 @@
 use Rattle.std.proofs.Common.{◌≡◌, ℕ, zero, suc, true, eqb, List, [], ◌∷◌, ◌++◌, refl, sym, ap, subst, arith, inl, inr, ◌⊎◌}
 use Rattle.std.specs.Prelude.{Contains, ◌||◌, ◌&&◌}
 use Rattle.std.proofs.lemmas.Bool.{eqb-true, eq-eqb, and_parts, and_from, or_cases, or_left, or_right}
-use Rattle.plain_search.specs.Edges.{Edge, IsWalk, LeadsTo, reaches}
+use Rattle.plain_search.specs.declared.Edge.{Edge}
+use Rattle.plain_search.specs.Edges.{IsWalk, LeadsTo, reaches}
 
 abbrev pub Reaches : List Edge → ℕ → ℕ → Type 0
 Reaches edges u v = reaches edges u v ≡ true

@@ -1,7 +1,8 @@
 -- The worked examples.
 use Rattle.std.proofs.Common.{◌≡◌, ℕ, false, List, [], ◌∷◌, refl, arith}
 use Rattle.std.proofs.lemmas.Bool.{both_ways}
-use Rattle.plain_search.specs.Edges.{Edge, LeadsTo, is_acyclic, reaches}
+use Rattle.plain_search.specs.declared.Edge.{Edge}
+use Rattle.plain_search.specs.Edges.{LeadsTo, is_acyclic, reaches}
 use Rattle.plain_search.specs.Searches.{Pair, PairProblem, problem_of, search}
 use Rattle.plain_search.specs.Examples
 use Rattle.plain_search.proofs.Walks.{walk-reaches}

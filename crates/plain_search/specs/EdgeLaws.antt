@@ -1,6 +1,7 @@
 -- What the tests on edges mean.
 use Rattle.std.specs.Prelude.{◌≡◌, ℕ, ◌<◌, ◌↔◌, ◌⊎◌, true, List, ◌∷◌, ◌++◌, All}
-use Rattle.plain_search.specs.Edges.{Edge, LeadsTo, IsOrLeadsTo, reaches, is_acyclic, Holds}
+use Rattle.plain_search.specs.declared.Edge.{Edge}
+use Rattle.plain_search.specs.Edges.{LeadsTo, IsOrLeadsTo, reaches, is_acyclic, Holds}
 
 -- what adding edge after edge computes is that a walk leads there
 abbrev pub ReachingIsByWalks : Type 0

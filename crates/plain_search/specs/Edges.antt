@@ -1,10 +1,6 @@
 -- Edges between numbers, walks along them, and rankings under which they hold.
 use Rattle.std.specs.Prelude.{◌≡◌, ℕ, ◌<◌, Bool, true, false, not, ◌&&◌, ◌||◌, eqb, List, [], ◌∷◌, ◌⊎◌, All, Contains}
-
--- one number is to stand before another
-pub record Edge : Type 0 where
-  pub from : ℕ
-  pub to : ℕ
+use Rattle.plain_search.specs.declared.Edge.{Edge}
 
 -- a walk of at least one edge, over the numbers between
 abbrev pub IsWalk : List Edge → ℕ → List ℕ → ℕ → Type 0

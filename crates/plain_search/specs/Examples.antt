@@ -1,6 +1,7 @@
 -- Small problems with what the plain search comes to, worked out by hand.
 use Rattle.std.specs.Prelude.{◌≡◌, ℕ, Bool, true, false, None, List, [], ◌∷◌}
-use Rattle.plain_search.specs.Edges.{Edge, LeadsTo}
+use Rattle.plain_search.specs.declared.Edge.{Edge}
+use Rattle.plain_search.specs.Edges.{LeadsTo}
 use Rattle.plain_search.specs.Searches.{Pair, PairProblem, outcome, dead_ends, open_pairs}
 use Rattle.plain_search.specs.Standing.{Stands}
 

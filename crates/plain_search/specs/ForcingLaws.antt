@@ -1,6 +1,7 @@
 -- Edges that may be added before their turn, and pairs that may be passed.
 use Rattle.std.specs.Prelude.{◌≡◌, ℕ, false, List, ◌∷◌, ◌++◌, ◌⊎◌, Contains}
-use Rattle.plain_search.specs.Edges.{Edge, is_acyclic, Holds, Implies}
+use Rattle.plain_search.specs.declared.Edge.{Edge}
+use Rattle.plain_search.specs.Edges.{is_acyclic, Holds, Implies}
 use Rattle.plain_search.specs.Searches.{Pair, PairProblem, problem_of, Solves, outcome, IsNoWorse}
 
 -- edges that hold in each solution may be added before the search

@@ -1,6 +1,7 @@
 -- Problems of edges and pairs, and the plain search for a choice of one side of each pair.
 use Rattle.std.specs.Prelude.{◌≡◌, ℕ, ◌+◌, ◌≤◌, Bool, true, false, cond, ◌&&◌, List, [], ◌∷◌, ◌++◌, ◌⊎◌, length, All, count_by}
-use Rattle.plain_search.specs.Edges.{Edge, is_acyclic, Holds}
+use Rattle.plain_search.specs.declared.Edge.{Edge}
+use Rattle.plain_search.specs.Edges.{is_acyclic, Holds}
 
 -- a pair has two sides: the edges that make its lesser member come first, and those that make the greater one
 pub record Pair : Type 0 where

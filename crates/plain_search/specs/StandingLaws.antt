@@ -1,6 +1,7 @@
 -- What a search may do so that it finds what the plain search finds, and meets no more dead ends.
 use Rattle.std.specs.Prelude.{◌≡◌, ℕ, ◌+◌, ◌≤◌, true, false, Option, Some, None, List, [], ◌∷◌, ◌++◌, ◌⊎◌, Contains}
-use Rattle.plain_search.specs.Edges.{Edge, is_acyclic, Holds, Implies}
+use Rattle.plain_search.specs.declared.Edge.{Edge}
+use Rattle.plain_search.specs.Edges.{is_acyclic, Holds, Implies}
 use Rattle.plain_search.specs.Searches.{Pair, PairProblem, problem_of, Solves, outcome}
 use Rattle.plain_search.specs.Standing.{Stands}
 

@@ -10,6 +10,13 @@ ghost use Rattle.plain_search.specs.SearchLaws.{FoundIsAChoice, FoundIsSolved, N
 ghost use Rattle.plain_search.specs.ForcingLaws.{ForcingLosesNothing, AlikeSearchesAlike, ShutForcesTheOther, SettledIsPassed};
 ghost use Rattle.plain_search.specs.StandingLaws.{Ends, Turns, Forces};
 
+/// An edge says that one node is to stand before another.
+#[derive(Clone, Copy)]
+pub struct Edge {
+    pub from: u32,
+    pub to: u32,
+}
+
 /// What the tests on edges mean: a walk leads there, no walk leads back, all edges hold under some ranking.
 pub fn edge_law()
     ensures walks { ReachingIsByWalks }

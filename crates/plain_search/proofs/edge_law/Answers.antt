@@ -1,6 +1,7 @@
 use Rattle.std.proofs.Common.{ℕ, List, ◌∷◌, inl, inr, ◌⊎◌}
 use Rattle.std.proofs.lemmas.List.Elements.{All-weaker}
-use Rattle.plain_search.specs.Edges.{Edge, LeadsTo, IsOrLeadsTo}
+use Rattle.plain_search.specs.declared.Edge.{Edge}
+use Rattle.plain_search.specs.Edges.{LeadsTo, IsOrLeadsTo}
 use Rattle.plain_search.proofs.edge_law.Goals as goal
 use Rattle.plain_search.proofs.Walks.{Reaches, Arrives, reaches-view, reaches-with, walk-more, reaches-walk, walk-reaches}
 use Rattle.plain_search.proofs.Rankings.{acyclic-parts, acyclic-from, acyclic-no_loop, no_loop-acyclic, acyclic-ranked, ranked-acyclic, reaches-rises, ranked-reaches}
