@@ -1,0 +1,65 @@
+-- What a graph keeps, as it is seen.
+use Rattle.std.proofs.Common.{◌≡◌, ℕ, ◌+◌, ◌*◌, ◌<◌, List, ◌++◌, length, get_or, leb, sym, ◌∙◌, ap, subst, arith}
+use Rattle.std.specs.Prelude.{sum, ◌↔◌, IsTrue}
+use Rattle.plain_search.specs.declared.Edge.{Edge}
+use Rattle.plain_search.specs.Edges.{LeadsTo, IsOrLeadsTo}
+use Rattle.order_graph.specs.Shapes.{shape, lanes_of, IsBefore, Leads}
+use Rattle.order_graph.specs.Graphs.{GraphState, graph_state, nodes_of, edges_of, chains_from, IsGraph, IsKept}
+use Rattle.std.proofs.lemmas.List.{get_or_read}
+use Rattle.order_graph.proofs.Lanes.{length-lanes_from}
+use Rattle.order_graph.proofs.Sweeping.{clock_fits}
+use Rattle.order_graph.proofs.Orders.{before-test, before-apart}
+use Rattle.order_graph.proofs.Chains.{before-leads, leads-before, is_or-leads}
+
+pub nodes-kept : (state : GraphState) (counts lanes : List ℕ) (added : List Edge) (spare : ℕ) (clocks heads older : List ℕ) → graph_state counts added spare ≡ state → IsKept counts lanes added clocks heads older →
+    nodes_of state ≡ length lanes
+nodes-kept state counts lanes added spare clocks heads older e k = sym (ap (λ (g : GraphState). sum g.counts) e) ∙ sym (length-lanes_from 0 counts) ∙ sym (ap length k.laid)
+
+-- the graph by the threads of its nodes
+pub graph-laid : (counts lanes : List ℕ) (added : List Edge) (clocks heads older : List ℕ) → IsKept counts lanes added clocks heads older → IsGraph (shape (lanes_of counts) added) (length counts) clocks
+graph-laid counts lanes added clocks heads older k = subst (λ (l : List ℕ). IsGraph (shape l added) (length counts) clocks) k.laid k.graph
+
+-- the one comparison
+pub before-kept : (state : GraphState) (counts lanes : List ℕ) (added : List Edge) (spare : ℕ) (clocks heads older : List ℕ) (u v lane cell : ℕ) → graph_state counts added spare ≡ state →
+    IsKept counts lanes added clocks heads older → u < length lanes → v < length lanes → lane ≡ get_or lanes v lane → cell ≡ get_or clocks (u * length counts + lane) cell → (u ≡ v → ⊥) →
+    (IsTrue (leb cell v)) ↔ LeadsTo (edges_of state) u v
+before-kept state counts lanes added spare clocks heads older u v lane cell e k a b l h ne =
+    subst (λ (g : GraphState). (IsTrue (leb cell v)) ↔ LeadsTo (edges_of g) u v) e (λ t. there (test.0 t), λ p. test.1 (back p))
+  where
+    test : (IsTrue (leb cell v)) ↔ IsBefore (shape lanes added) u v
+    test = before-test (shape lanes added) (length counts) clocks u v lane cell k.graph a b l h ne
+
+    there : IsBefore (shape lanes added) u v → LeadsTo (chains_from 0 counts ++ added) u v
+    there p = before-leads counts added u v (subst (λ (z : List ℕ). IsBefore (shape z added) u v) k.laid p)
+
+    back : LeadsTo (chains_from 0 counts ++ added) u v → IsBefore (shape lanes added) u v
+    back p = subst (λ (z : List ℕ). IsBefore (shape z added) u v) (sym k.laid) (leads-before counts added u v p)
+
+-- no walk leads back
+pub apart-kept : (state : GraphState) (counts lanes : List ℕ) (added : List Edge) (spare : ℕ) (clocks heads older : List ℕ) (u v : ℕ) → graph_state counts added spare ≡ state →
+    IsKept counts lanes added clocks heads older → LeadsTo (edges_of state) u v → u ≡ v → ⊥
+apart-kept state counts lanes added spare clocks heads older u v e k p q =
+    before-apart (shape (lanes_of counts) added) (length counts) clocks u v (graph-laid counts lanes added clocks heads older k)
+    (leads-before counts added u v (subst (λ (g : GraphState). LeadsTo (edges_of g) u v) (sym e) p)) q
+
+-- the place of a node's clock for a thread is there
+pub clock-kept : (counts lanes : List ℕ) (added : List Edge) (clocks heads older : List ℕ) (u v lane : ℕ) → IsKept counts lanes added clocks heads older → u < length lanes → v < length lanes →
+    lane ≡ get_or lanes v lane → u * length counts + lane < length clocks
+clock-kept counts lanes added clocks heads older u v lane k a b l =
+    let f = clock_fits (length counts) lanes added (length clocks) u k.graph.room a in
+    let m = k.graph.room.lane v b in
+    let e = get_or_read lanes v lane b l 0 in
+    omega (arith, f, m, e)
+
+pub place-kept : (state : GraphState) (counts lanes : List ℕ) (added : List Edge) (spare : ℕ) (clocks heads older : List ℕ) (u v lane threads : ℕ) → graph_state counts added spare ≡ state →
+    IsKept counts lanes added clocks heads older → u < nodes_of state → v < nodes_of state → lane ≡ get_or lanes v lane → threads ≡ length counts → u * threads + lane < length clocks
+place-kept state counts lanes added spare clocks heads older u v lane threads e k a b l t =
+    let n = nodes-kept state counts lanes added spare clocks heads older e k in
+    let m = clock-kept counts lanes added clocks heads older u v lane k (omega (arith, n, a)) (omega (arith, n, b)) l in
+    subst (λ (x : ℕ). u * x + lane < length clocks) (sym t) m
+
+-- one more edge that closes no cycle
+pub shut-laid : (state : GraphState) (counts lanes : List ℕ) (added : List Edge) (spare : ℕ) (clocks heads older : List ℕ) (u v : ℕ) → graph_state counts added spare ≡ state →
+    IsKept counts lanes added clocks heads older → (IsOrLeadsTo (edges_of state) v u → ⊥) → Leads (shape lanes added) v u → ⊥
+shut-laid state counts lanes added spare clocks heads older u v e k shut l =
+    shut (subst (λ (g : GraphState). IsOrLeadsTo (edges_of g) v u) e (is_or-leads counts added v u (subst (λ (z : List ℕ). Leads (shape z added) v u) k.laid l)))

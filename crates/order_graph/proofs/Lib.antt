@@ -1,0 +1,9 @@
+mod Walks
+pub mod Lowering
+mod Sweeping
+mod Pulling
+mod Linking
+mod Orders
+mod Lanes
+mod Chains
+mod Kept
