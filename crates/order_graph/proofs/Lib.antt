@@ -7,3 +7,5 @@ mod Orders
 mod Lanes
 mod Chains
 mod Kept
+mod Ready
+mod Placed

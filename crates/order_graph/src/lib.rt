@@ -4,6 +4,7 @@
 
 mod carry;
 mod clocks;
+mod fronts;
 mod links;
 mod thread_graph;
 

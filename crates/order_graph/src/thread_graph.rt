@@ -1,11 +1,13 @@
 // The graph: the nodes' threads, the edges that were added, and the clocks.
 ghost use Rattle.std.specs.Prelude.{◌≡◌, ℕ, ◌+◌, ◌-◌, ◌^◌, ◌<◌, ◌≤◌, ◌↔◌, IsTrue, IfOk, OnOk, OnErr, true, List, [], length, sum, vec_capacity};
-ghost use Rattle.plain_search.specs.Edges.{LeadsTo, IsOrLeadsTo};
+ghost use Rattle.plain_search.specs.Edges.{LeadsTo, IsOrLeadsTo, is_acyclic};
 ghost use Rattle.order_graph.specs.Shapes.{shape, lanes_of};
+ghost use Rattle.order_graph.specs.Orders.{IsOrder};
 ghost use Rattle.order_graph.specs.Graphs.{edges_of, nodes_of, Adds, with_added, undone};
 
 use crate::carry::insert;
 use crate::clocks::{NONE, compute};
+use crate::fronts::place_all;
 use crate::links::{link, unlink};
 use light_base::Memory;
 use plain_search::Edge;
@@ -42,6 +44,7 @@ impl Model for Mark {
 /// edges for which there is memory.
 #[derive(Drop)]
 pub struct Graph {
+    alloc: Global,
     counts: Vec<u32>,
     lanes: Vec<u32>,
     edges: Vec<Edge>,
@@ -50,10 +53,11 @@ pub struct Graph {
     older: Vec<usize>,
     clocks: Vec<u32>,
     work: Vec<u32>,
+    fronts: Vec<u32>,
 }
 
 impl Model for Graph {
-    ghost use Rattle.std.specs.Prelude.{vec_len, vec_capacity};
+    ghost use Rattle.std.specs.Prelude.{◌≡◌, length, vec_len, vec_capacity};
     ghost use Rattle.order_graph.specs.Graphs.{GraphState, graph_state, IsKept, HasSpare};
 
     ghost Value = { GraphState };
@@ -61,7 +65,7 @@ impl Model for Graph {
     ghost view = { λ g. graph_state g.counts.items g.edges.items g.spare };
 
     ghost invariant = { λ g. IsKept g.counts.items g.lanes.items g.edges.items g.clocks.items g.heads.items g.older.items
-        × HasSpare g.spare (vec_len g.edges) (vec_capacity g.edges) × HasSpare g.spare (vec_len g.older) (vec_capacity g.older) };
+        × (length g.fronts.items ≡ length g.counts.items) × HasSpare g.spare (vec_len g.edges) (vec_capacity g.edges) × HasSpare g.spare (vec_len g.older) (vec_capacity g.older) };
 }
 
 // The thread of each node.
@@ -97,7 +101,9 @@ impl Graph {
         let heads: Vec<usize> = vec![in alloc; 0; lanes.len()]?;
         let mut clocks = vec![in alloc; NONE; size]?;
         compute(threads, &lanes, &edges, &mut clocks);
+        let fronts: Vec<u32> = vec![in alloc; 0; threads]?;
         Ok(Graph {
+            alloc,
             counts: own_counts,
             lanes,
             edges,
@@ -106,7 +112,15 @@ impl Graph {
             older: Vec::new(alloc),
             clocks,
             work: Vec::new(alloc),
+            fronts,
         })
+    }
+
+    /// Does nothing: a law about every graph, that its edges close no cycle.
+    pub fn acyclic_law(&self)
+        ensures { is_acyclic (edges_of self.now) ≡ true }
+    {
+        let _threads = self.counts.len();
     }
 
     /// Whether a walk of at least one edge leads from u to v.
@@ -201,6 +215,38 @@ impl Graph {
             &self.lanes,
             &self.edges,
             &mut self.clocks,
+        );
+    }
+
+    /// All nodes, each before those that it leads to; at each place stands the least node that may come next.
+    pub fn order(&self) -> Result<Vec<u32>, Memory>
+        ensures { IfOk result (λ order. IsOrder (edges_of self.now) (nodes_of self.now) order.items) }
+    {
+        let mut fronts: Vec<u32> = vec![in self.alloc; 0; self.counts.len()]?;
+        let mut out: Vec<u32> = Vec::with_capacity(self.alloc, self.lanes.len())?;
+        place_all(
+            self.counts.len(),
+            &self.lanes,
+            &self.clocks,
+            &mut fronts,
+            &mut out,
+        );
+        Ok(out)
+    }
+
+    /// Appends the list of `order`, and takes no memory.
+    pub fn fill_order(&mut self, out: &mut Vec<u32>)
+        requires empty { out.old.items ≡ [] }
+        requires room { nodes_of self.old ≤ vec_capacity out.old }
+        ensures order { IsOrder (edges_of self.old) (nodes_of self.old) out.new.items }
+        ensures graph { self.new ≡ self.old }
+    {
+        place_all(
+            self.counts.len(),
+            &self.lanes,
+            &self.clocks,
+            &mut self.fronts,
+            out,
         );
     }
 }

@@ -35,6 +35,7 @@ invariant_of-result c = (
         refl c.new-edges.ensures.items refl c.new.ensures.items
         (linked-none (length c.in_ok-lanes.lanes.items) c.in_ok-heads.heads.items (c.in_ok-heads.ensures.items_if_clones_equal (λ y e. e) ∙ ap (λ (n : ℕ). replicate n 0) (c.len-2.ensures ∙ c.in_ok-lanes.lanes.ok.0)));
   },
+  fronts,
   (let h = c.new-edges.ensures.len in omega (arith, h)),
   (let h = c.new.ensures.len in omega (arith, h)),
 )
@@ -45,6 +46,9 @@ invariant_of-result c = (
 
     counts : c.extend_from_slice.new.self.items ≡ c.args.counts.now
     counts = c.in_ok-extend_from_slice.ensures.items ∙ ap (λ (z : List ℕ). z ++ c.args.counts.now) c.in_ok-own_counts.ensures.items
+
+    fronts : length c.in_ok-fronts.fronts.items ≡ length c.extend_from_slice.new.self.items
+    fronts = sym c.in_ok-fronts.fronts.ok.0 ∙ c.in_ok-fronts.ensures.len ∙ ap length (sym counts)
 
     exact : IsExact (shape (lanes_of c.args.counts.now) []) (length c.args.counts.now) c.compute.new.clocks
     exact = exact-back (length c.args.counts.now) (lanes_of c.args.counts.now) c.deref.result.now [] c.deref-2.result.now c.compute.new.clocks

@@ -71,8 +71,8 @@ invariant_of-self c =
           (subst (λ (z : List Edge). IsGraph (shape c.self.inside.lanes.items z) (length c.self.inside.counts.items) c.insert.new.clocks) (sym c.link.ensures.items) whole);
       linked = subst (λ (m : ℕ). AreLinked m c.link.new.edges.items c.link.new.heads.items c.link.new.older.items) k.linked.heads_size c.link.ensures.linked;
     } in
-    let s = c.self.invariant.1 in
-    let o = c.self.invariant.2 in
+    let s = c.self.invariant.2 in
+    let o = c.self.invariant.3 in
     let p = c.requires.spare in
     let w = ap (λ (g : GraphState). g.spare) c.self.view_is in
     let a = ap length c.link.ensures.items in
@@ -85,4 +85,4 @@ invariant_of-self c =
     let z = k.linked.older_size in
     let er = c.link.ensures.edge_room in
     let ol = c.link.ensures.older_room in
-    (kept, omega (arith, s, p, w, a, h, b, m, er), omega (arith, o, p, w, a, i, b, d, m, f, z, ol))
+    (kept, c.self.invariant.1, omega (arith, s, p, w, a, h, b, m, er), omega (arith, o, p, w, a, i, b, d, m, f, z, ol))

@@ -55,6 +55,6 @@ invariant_of-self c =
     let f = kept.linked.older_size in
     let er = c.unlink.ensures.edge_room in
     let ol = c.unlink.ensures.older_room in
-    let s = c.self.invariant.1 in
-    let o = c.self.invariant.2 in
-    (kept, omega (arith, r, a, t, n, b, h, er, s), omega (arith, r, a, t, n, b, d, i, z, f, ol, o))
+    let s = c.self.invariant.2 in
+    let o = c.self.invariant.3 in
+    (kept, c.self.invariant.1, omega (arith, r, a, t, n, b, h, er, s), omega (arith, r, a, t, n, b, d, i, z, f, ol, o))
