@@ -2,8 +2,8 @@
 use Rattle.std.proofs.Common.{◌≡◌, ℕ, ◌+◌, ◌*◌, ◌<◌, List, [], ◌∷◌, ◌++◌, length, get_or, leb, sym, ◌∙◌, ap, subst, arith, inl, inr}
 use Rattle.std.specs.Prelude.{sum, ◌↔◌, IsTrue}
 use Rattle.plain_search.specs.declared.Edge.{Edge}
-use Rattle.plain_search.specs.Edges.{LeadsTo, IsOrLeadsTo}
-use Rattle.order_graph.specs.Shapes.{shape, lanes_of, IsStep, IsWalk, IsBefore, Leads}
+use Rattle.plain_search.specs.Edges.{IsOrLeadsTo}
+use Rattle.order_graph.specs.Shapes.{shape, lanes_of, IsStep, IsWalk, Leads}
 use Rattle.order_graph.specs.Clocks.{HasRoom}
 use Rattle.order_graph.specs.Orders.{IsOrder}
 use Rattle.order_graph.specs.Fronts.{HasLanes, IsClocked}
@@ -11,9 +11,9 @@ use Rattle.order_graph.specs.Graphs.{GraphState, graph_state, nodes_of, edges_of
 use Rattle.std.proofs.lemmas.List.{get_or_read}
 use Rattle.order_graph.proofs.Lanes.{length-lanes_from}
 use Rattle.order_graph.proofs.Sweeping.{clock_fits}
-use Rattle.order_graph.proofs.Orders.{before-test, before-apart, before-of, before-clock}
+use Rattle.order_graph.proofs.Orders.{leads-test, before-of, before-clock}
 use Rattle.order_graph.proofs.Walks.{chain-before}
-use Rattle.order_graph.proofs.Chains.{before-leads, leads-before, is_or-leads}
+use Rattle.order_graph.proofs.Chains.{before-leads, leads-before, is_or-leads, leads-is_or}
 
 pub nodes-kept : (state : GraphState) (counts lanes : List ℕ) (added : List Edge) (spare : ℕ) (clocks heads older : List ℕ) → graph_state counts added spare ≡ state → IsKept counts lanes added clocks heads older →
     nodes_of state ≡ length lanes
@@ -24,27 +24,20 @@ pub graph-laid : (counts lanes : List ℕ) (added : List Edge) (clocks heads old
 graph-laid counts lanes added clocks heads older k = subst (λ (l : List ℕ). IsGraph (shape l added) (length counts) clocks) k.laid k.graph
 
 -- the one comparison
-pub before-kept : (state : GraphState) (counts lanes : List ℕ) (added : List Edge) (spare : ℕ) (clocks heads older : List ℕ) (u v lane cell : ℕ) → graph_state counts added spare ≡ state →
-    IsKept counts lanes added clocks heads older → u < length lanes → v < length lanes → lane ≡ get_or lanes v lane → cell ≡ get_or clocks (u * length counts + lane) cell → (u ≡ v → ⊥) →
-    (IsTrue (leb cell v)) ↔ LeadsTo (edges_of state) u v
-before-kept state counts lanes added spare clocks heads older u v lane cell e k a b l h ne =
-    subst (λ (g : GraphState). (IsTrue (leb cell v)) ↔ LeadsTo (edges_of g) u v) e (λ t. there (test.0 t), λ p. test.1 (back p))
+pub leads-kept : (state : GraphState) (counts lanes : List ℕ) (added : List Edge) (spare : ℕ) (clocks heads older : List ℕ) (u v lane cell : ℕ) → graph_state counts added spare ≡ state →
+    IsKept counts lanes added clocks heads older → u < length lanes → v < length lanes → lane ≡ get_or lanes v lane → cell ≡ get_or clocks (u * length counts + lane) cell →
+    (IsTrue (leb cell v)) ↔ IsOrLeadsTo (edges_of state) u v
+leads-kept state counts lanes added spare clocks heads older u v lane cell e k a b l h =
+    subst (λ (g : GraphState). (IsTrue (leb cell v)) ↔ IsOrLeadsTo (edges_of g) u v) e (λ t. there (test.0 t), λ p. test.1 (back p))
   where
-    test : (IsTrue (leb cell v)) ↔ IsBefore (shape lanes added) u v
-    test = before-test (shape lanes added) (length counts) clocks u v lane cell k.graph a b l h ne
+    test : (IsTrue (leb cell v)) ↔ Leads (shape lanes added) u v
+    test = leads-test (shape lanes added) (length counts) clocks u v lane cell k.graph a b l h
 
-    there : IsBefore (shape lanes added) u v → LeadsTo (chains_from 0 counts ++ added) u v
-    there p = before-leads counts added u v (subst (λ (z : List ℕ). IsBefore (shape z added) u v) k.laid p)
+    there : Leads (shape lanes added) u v → IsOrLeadsTo (chains_from 0 counts ++ added) u v
+    there p = is_or-leads counts added u v (subst (λ (z : List ℕ). Leads (shape z added) u v) k.laid p)
 
-    back : LeadsTo (chains_from 0 counts ++ added) u v → IsBefore (shape lanes added) u v
-    back p = subst (λ (z : List ℕ). IsBefore (shape z added) u v) (sym k.laid) (leads-before counts added u v p)
-
--- no walk leads back
-pub apart-kept : (state : GraphState) (counts lanes : List ℕ) (added : List Edge) (spare : ℕ) (clocks heads older : List ℕ) (u v : ℕ) → graph_state counts added spare ≡ state →
-    IsKept counts lanes added clocks heads older → LeadsTo (edges_of state) u v → u ≡ v → ⊥
-apart-kept state counts lanes added spare clocks heads older u v e k p q =
-    before-apart (shape (lanes_of counts) added) (length counts) clocks u v (graph-laid counts lanes added clocks heads older k)
-    (leads-before counts added u v (subst (λ (g : GraphState). LeadsTo (edges_of g) u v) (sym e) p)) q
+    back : IsOrLeadsTo (chains_from 0 counts ++ added) u v → Leads (shape lanes added) u v
+    back p = subst (λ (z : List ℕ). Leads (shape z added) u v) (sym k.laid) (leads-is_or counts added u v p)
 
 -- the place of a node's clock for a thread is there
 pub clock-kept : (counts lanes : List ℕ) (added : List Edge) (clocks heads older : List ℕ) (u v lane : ℕ) → IsKept counts lanes added clocks heads older → u < length lanes → v < length lanes →

@@ -3,7 +3,7 @@ use Rattle.std.specs.Prelude.{Contains, slice_index, slice_index_or, ◌↔◌, 
 use Rattle.std.proofs.lemmas.Bool.{leb-true, le-leb, both_ways}
 use Rattle.std.proofs.lemmas.List.{get_or_read, drop_all, append-nil}
 use Rattle.order_graph.proofs.Sweeping.{clock_fits}
-use Rattle.std.proofs.lemmas.Bool.{cases_lt}
+use Rattle.std.proofs.lemmas.Bool.{cases_eq, cases_lt}
 use Rattle.std.proofs.lemmas.List.{take_all, get_or_default}
 use Rattle.std.proofs.lemmas.List.Elements.{Contains-push_cases}
 use Rattle.plain_search.specs.declared.Edge.{Edge}
@@ -33,9 +33,6 @@ before-of g threads clocks u v h a b ne l = go (h.exact.opening.sound.sound u (s
     go : (clock threads clocks u (slice_index g.lanes v) ≡ none) ⊎ IsReached g u (slice_index g.lanes v) (clock threads clocks u (slice_index g.lanes v)) → IsBefore g u v
     go (inl e) = let few = h.room.nodes_few in absurd (omega (arith, e, l, b, few))
     go (inr r) = at (clock threads clocks u (slice_index g.lanes v)) r l (cases_lt (clock threads clocks u (slice_index g.lanes v)) v)
-
-pub before-apart : (g : Shape) (threads : ℕ) (clocks : List ℕ) (u v : ℕ) → IsGraph g threads clocks → IsBefore g u v → u ≡ v → ⊥
-before-apart g threads clocks u v h p e = h.acyclic v (subst (λ (k : ℕ). IsBefore g k v) e p)
 
 pub before-clock : (g : Shape) (threads : ℕ) (clocks : List ℕ) (u v : ℕ) → IsGraph g threads clocks → v < length g.lanes → IsBefore g u v →
     clock threads clocks u (slice_index g.lanes v) ≤ v
@@ -88,9 +85,9 @@ graph-first g threads clocks new count h e x = record {
 }
 
 -- the one comparison
-pub before-test : (g : Shape) (threads : ℕ) (clocks : List ℕ) (u v lane cell : ℕ) → IsGraph g threads clocks → u < length g.lanes → v < length g.lanes →
-    lane ≡ get_or g.lanes v lane → cell ≡ get_or clocks (u * threads + lane) cell → (u ≡ v → ⊥) → (IsTrue (leb cell v)) ↔ IsBefore g u v
-before-test g threads clocks u v lane cell h a b p q ne = (λ t. before-of g threads clocks u v h a b ne (to (leb-true cell v t)), λ w. le-leb cell v (from (before-clock g threads clocks u v h b w)))
+pub leads-test : (g : Shape) (threads : ℕ) (clocks : List ℕ) (u v lane cell : ℕ) → IsGraph g threads clocks → u < length g.lanes → v < length g.lanes →
+    lane ≡ get_or g.lanes v lane → cell ≡ get_or clocks (u * threads + lane) cell → (IsTrue (leb cell v)) ↔ Leads g u v
+leads-test g threads clocks u v lane cell h a b p q = (λ t. told (cases_eq u v) (to (leb-true cell v t)), λ w. le-leb cell v (from (at w)))
   where
     l : lane ≡ slice_index g.lanes v
     l = get_or_read g.lanes v lane b p 0
@@ -106,6 +103,14 @@ before-test g threads clocks u v lane cell h a b p q ne = (λ t. before-of g thr
 
     from : clock threads clocks u (slice_index g.lanes v) ≤ v → cell ≤ v
     from k = omega (arith, c, k)
+
+    told : (u ≡ v) ⊎ (u ≡ v → ⊥) → clock threads clocks u (slice_index g.lanes v) ≤ v → Leads g u v
+    told (inl e) k = inl e
+    told (inr ne) k = inr (before-of g threads clocks u v h a b ne k)
+
+    at : Leads g u v → clock threads clocks u (slice_index g.lanes v) ≤ v
+    at (inl e) = let o = h.exact.opening.own v b in subst (λ (x : ℕ). clock threads clocks x (slice_index g.lanes v) ≤ v) (sym e) o
+    at (inr w) = before-clock g threads clocks u v h b w
 
 pub graph-at : (g h : Shape) (threads : ℕ) (clocks : List ℕ) → g ≡ h → IsGraph g threads clocks → IsGraph h threads clocks
 graph-at g h threads clocks e k = subst (λ (s : Shape). IsGraph s threads clocks) e k

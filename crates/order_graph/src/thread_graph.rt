@@ -129,8 +129,18 @@ impl Graph {
         requires v { v < nodes_of self.now }
         ensures { IsTrue result ↔ LeadsTo (edges_of self.now) u v }
     {
+        self.acyclic_law();
+        u != v && self.leads(u, v)
+    }
+
+    // Whether v is u, or a walk leads there from u: the least node of v's thread to which u leads is no later than v.
+    fn leads(&self, u: u32, v: u32) -> bool
+        requires u { u < nodes_of self.now }
+        requires v { v < nodes_of self.now }
+        ensures { IsTrue result ↔ IsOrLeadsTo (edges_of self.now) u v }
+    {
         let thread = self.lanes[v as usize] as usize;
-        u != v && self.clocks[u as usize * self.counts.len() + thread] <= v
+        self.clocks[u as usize * self.counts.len() + thread] <= v
     }
 
     /// Adds an edge, or answers `Cycle` exactly where u is v or v comes before u. It answers `Memory` only where `spare` is 0.
@@ -140,7 +150,7 @@ impl Graph {
         requires v { v < nodes_of self.old }
         ensures { Adds self.old u v result self.new }
     {
-        if u == v || self.before(v, u) {
+        if self.leads(v, u) {
             return Ok(Added::Cycle);
         }
         if self.spare == 0 {
