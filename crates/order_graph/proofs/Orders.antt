@@ -1,6 +1,6 @@
-use Rattle.std.proofs.Common.{◌≡◌, ℕ, ◌+◌, ◌*◌, ◌<◌, ◌≤◌, List, [], ◌∷◌, ◌++◌, length, take, drop, get_or, leb, Bool, false, sym, ◌∙◌, ap, subst, arith, inl, inr, ◌⊎◌}
+use Rattle.std.proofs.Common.{◌≡◌, ℕ, ◌+◌, ◌*◌, ◌<◌, ◌≤◌, List, [], ◌∷◌, ◌++◌, length, take, drop, get_or, leb, sym, ◌∙◌, ap, subst, arith, inl, inr, ◌⊎◌}
 use Rattle.std.specs.Prelude.{Contains, slice_index, slice_index_or, ◌↔◌, IsTrue}
-use Rattle.std.proofs.lemmas.Bool.{leb-true, le-leb, both_ways}
+use Rattle.std.proofs.lemmas.Bool.{leb-true, le-leb}
 use Rattle.std.proofs.lemmas.List.{get_or_read, drop_all, append-nil}
 use Rattle.order_graph.proofs.Sweeping.{clock_fits}
 use Rattle.std.proofs.lemmas.Bool.{cases_eq, cases_lt}
@@ -112,9 +112,6 @@ leads-test g threads clocks u v lane cell h a b p q = (λ t. told (cases_eq u v)
     at (inl e) = let o = h.exact.opening.own v b in subst (λ (x : ℕ). clock threads clocks x (slice_index g.lanes v) ≤ v) (sym e) o
     at (inr w) = before-clock g threads clocks u v h b w
 
-pub graph-at : (g h : Shape) (threads : ℕ) (clocks : List ℕ) → g ≡ h → IsGraph g threads clocks → IsGraph h threads clocks
-graph-at g h threads clocks e k = subst (λ (s : Shape). IsGraph s threads clocks) e k
-
 -- what comes back of a vector that was passed as a slice
 pub back : (len : ℕ) (old start new : List ℕ) → length start ≡ len → start ≡ old → length new ≡ length start → take len (new ++ drop (length new) old) ≡ new
 back len old start new f s e =
@@ -125,22 +122,6 @@ back len old start new f s e =
 pub room-at : (threads : ℕ) (lanes lanes' : List ℕ) (edges edges' : List Edge) (size size' : ℕ) → lanes' ≡ lanes → edges' ≡ edges → size' ≡ size → HasRoom threads lanes edges size → HasRoom threads lanes' edges' size'
 room-at threads lanes lanes' edges edges' size size' p q r h =
     room-size threads lanes' edges' size size' r (subst (λ (e : List Edge). HasRoom threads lanes' e size) (sym q) (subst (λ (l : List ℕ). HasRoom threads l edges size) (sym p) h))
-
-pub exact-at : (threads : ℕ) (lanes lanes' : List ℕ) (edges edges' : List Edge) (start old new : List ℕ) → lanes' ≡ lanes → edges' ≡ edges → start ≡ old →
-    (IsOpening (shape lanes' edges') threads start → IsExact (shape lanes' edges') threads new) → IsOpening (shape lanes edges) threads old → IsExact (shape lanes edges) threads new
-exact-at threads lanes lanes' edges edges' start old new p q r f =
-    subst (λ (s : List ℕ). IsOpening (shape lanes edges) threads s → IsExact (shape lanes edges) threads new) r
-    (subst (λ (e : List Edge). IsOpening (shape lanes e) threads start → IsExact (shape lanes e) threads new) q
-    (subst (λ (l : List ℕ). IsOpening (shape l edges') threads start → IsExact (shape l edges') threads new) p f))
-
--- where the test says no
-pub shut-of : (g : Shape) (u v : ℕ) (test : Bool) → (u ≡ v → ⊥) → test ≡ false → (IsTrue test ↔ IsBefore g v u) → Leads g v u → ⊥
-shut-of g u v test ne f w (inl e) = ne (sym e)
-shut-of g u v test ne f w (inr p) = both_ways test f (w.1 p)
-
-pub opening-at : (threads : ℕ) (lanes lanes' : List ℕ) (edges edges' : List Edge) (clocks : List ℕ) → lanes' ≡ lanes → edges' ≡ edges → IsOpening (shape lanes' edges') threads clocks → IsOpening (shape lanes edges) threads clocks
-opening-at threads lanes lanes' edges edges' clocks p q o =
-    subst (λ (e : List Edge). IsOpening (shape lanes e) threads clocks) q (subst (λ (l : List ℕ). IsOpening (shape l edges') threads clocks) p o)
 
 -- with the new edge all is closed but along it
 pub closed-but : (g : Shape) (threads : ℕ) (clocks : List ℕ) (u v : ℕ) → IsClosed g threads clocks → IsClosedBut (with_edge g u v) threads u v clocks

@@ -221,9 +221,6 @@ waits-first g threads u v old work new work' low pull h = record { waits = λ x 
     go x y (inl r) = pulled-good threads u v old work new work' low pull x y (inl r)
     go x y (inr (p, q)) = inl (subst (λ (a : ℕ). Rises threads new a y) (sym p) (subst (λ (b : ℕ). Rises threads new u b) (sym q) (pulled-rises threads u v old new low)))
 
-pub nodes-none : (nodes : ℕ) (work : List ℕ) → work ≡ [] → AreNodes nodes work
-nodes-none nodes work e = record { node = λ v c. absurd (let m = c.1 in let n = ap length e in omega (arith, m, n)) }
-
 -- the edges that a node's list names lead to it
 pub into-step : (lanes : List ℕ) (edges : List Edge) (k v : ℕ) → k < length edges → end_of edges k ≡ v → IsStep (shape lanes edges) (slice_index_or edges k (arrow 0 0)).from v
 into-step lanes edges k v l e =

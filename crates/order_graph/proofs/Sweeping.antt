@@ -5,7 +5,7 @@ use Rattle.std.proofs.lemmas.Nat.{same_from_place, row_fits}
 use Rattle.std.proofs.lemmas.List.{get_or_default}
 use Rattle.plain_search.specs.declared.Edge.{Edge}
 use Rattle.order_graph.specs.Shapes.{Shape, shape, arrow, IsNext, IsStep, Leads}
-use Rattle.order_graph.specs.Clocks.{none, clock, Rises, IsReached, IsOpening, IsClosed, IsNextClosed, AreEdgesClosed, IsExact, IsLowering, IsTold, Lowered, Swept, HasRoom}
+use Rattle.order_graph.specs.Clocks.{none, clock, Rises, IsReached, IsOpening, IsClosed, IsNextClosed, AreEdgesClosed, IsLowering, IsTold, Lowered, Swept, HasRoom}
 use Rattle.order_graph.proofs.Walks.{leads-trans, before-step}
 use Rattle.order_graph.proofs.Lowering.{told-none}
 
@@ -33,16 +33,6 @@ swept-none g threads old = record { opening = λ o. o; told = told-none old }
 pub swept-step : (g : Shape) (threads u v : ℕ) (old cur new : List ℕ) (changed moved : Bool) → IsStep g u v → v < length g.lanes →
     Swept g threads old cur changed → Lowered threads u v cur new moved → Swept g threads old new (changed || moved)
 swept-step g threads u v old cur new changed moved s n w h = record { opening = λ o. opening-step g threads u v cur new s n h.lowering (w.opening o); told = told changed moved w.told h.told }
-  where
-    told : (changed moved : Bool) → IsTold old cur changed → IsTold cur new moved → IsTold old new (changed || moved)
-    told true true a b = let p = a.fell refl in let q = b.fell refl in record { size = b.size ∙ a.size; still = λ z. cc; fell = λ _. omega (arith, p, q) }
-    told true false a b = let p = a.fell refl in let q = ap sum (b.still refl) in record { size = b.size ∙ a.size; still = λ z. cc; fell = λ _. omega (arith, p, q) }
-    told false true a b = let p = ap sum (a.still refl) in let q = b.fell refl in record { size = b.size ∙ a.size; still = λ z. cc; fell = λ _. omega (arith, p, q) }
-    told false false a b = record { size = b.size ∙ a.size; still = λ _. b.still refl ∙ a.still refl; fell = λ z. cc }
-
-pub swept-trans : (g : Shape) (threads : ℕ) (old cur new : List ℕ) (changed moved : Bool) → Swept g threads old cur changed → Swept g threads cur new moved →
-    Swept g threads old new (changed || moved)
-swept-trans g threads old cur new changed moved w h = record { opening = λ o. h.opening (w.opening o); told = told changed moved w.told h.told }
   where
     told : (changed moved : Bool) → IsTold old cur changed → IsTold cur new moved → IsTold old new (changed || moved)
     told true true a b = let p = a.fell refl in let q = b.fell refl in record { size = b.size ∙ a.size; still = λ z. cc; fell = λ _. omega (arith, p, q) }
@@ -246,12 +236,3 @@ told-smaller old cur new inner outer a b (inr p) = go (cases_Bool outer)
     go : (outer ≡ true) ⊎ (outer ≡ false) → sum new < sum old
     go (inl q) = let m = a.fell p in let k = b.fell q in omega (arith, m, k)
     go (inr q) = let m = a.fell p in let k = ap sum (b.still q) in omega (arith, m, k)
-
--- two sweeps that changed nothing leave exact clocks
-pub settled : (threads : ℕ) (lanes : List ℕ) (edges : List Edge) (start old cur new : List ℕ) (inner outer : Bool) → inner ≡ false → outer ≡ false →
-    (IsOpening (shape lanes edges) threads start → IsOpening (shape lanes edges) threads old) → Swept (shape lanes edges) threads old cur inner → Swept (shape lanes edges) threads cur new outer →
-    (inner ≡ false → IsNextClosed lanes threads cur) → (outer ≡ false → AreEdgesClosed edges threads new) → IsOpening (shape lanes edges) threads start → IsExact (shape lanes edges) threads new
-settled threads lanes edges start old cur new inner outer p q before a b n e o = record {
-  opening = b.opening (a.opening (before o));
-  closed = closed_all (shape lanes edges) threads new (subst (λ (z : List ℕ). IsNextClosed lanes threads z) (sym (b.told.still q)) (n p)) (e q);
-}

@@ -71,16 +71,6 @@ walk-split g u v x (m ∷ between) y (s, w) = go (step-with_cases g u v x m s) (
     go (inr (p, q)) (inl r) = inr (inl (sym p), inr (subst (λ (k : ℕ). IsBefore g k y) (sym q) r))
     go (inr (p, q)) (inr (l, r)) = inr (inl (sym p), r)
 
--- the new order has the old one, the edge, and what they lead to
-pub before-with : (g : Shape) (u v x y : ℕ) → Leads g x u → Leads g v y → IsBefore (with_edge g u v) x y
-before-with g u v x y p q =
-    let wide = λ (a b : ℕ) (r : IsBefore g a b). before-wider g (with_edge g u v) (step-with g u v) a b r in
-    leads_before (with_edge g u v) x u y (lift wide x u p) (before_leads (with_edge g u v) u v y (before-step (with_edge g u v) u v (step-new g u v)) (lift wide v y q))
-  where
-    lift : ((a b : ℕ) → IsBefore g a b → IsBefore (with_edge g u v) a b) → (a b : ℕ) → Leads g a b → Leads (with_edge g u v) a b
-    lift k a b (inl e) = inl e
-    lift k a b (inr r) = inr (k a b r)
-
 -- an edge closes no cycle where its end does not lead to its start
 pub acyclic-with : (g : Shape) (u v : ℕ) → ((x : ℕ) → IsBefore g x x → ⊥) → (Leads g v u → ⊥) → (x : ℕ) → IsBefore (with_edge g u v) x x → ⊥
 acyclic-with g u v none shut x p = go (walk-split g u v x p.between x p.walk)

@@ -19,7 +19,7 @@ pub record IsReached (g : Shape) (x t w : ℕ) : Type 0 where
 pub record IsSound (g : Shape) (threads : ℕ) (clocks : List ℕ) : Type 0 where
   pub sound : (x t : ℕ) → x < length g.lanes → t < threads → (clock threads clocks x t ≡ none) ⊎ IsReached g x t (clock threads clocks x t)
 
--- each clock says no more than that x leads to x
+-- each clock says only what is so, and at least that x leads to x itself
 pub record IsOpening (g : Shape) (threads : ℕ) (clocks : List ℕ) : Type 0 where
   pub sound : IsSound g threads clocks
   pub own : (x : ℕ) → x < length g.lanes → clock threads clocks x (slice_index g.lanes x) ≤ x
