@@ -4,6 +4,7 @@ use machine::{End, Limits, Program, RunReport};
 use std::alloc::AllocError;
 use std::test::Fail;
 
+mod graphs;
 mod recordings;
 
 fn is_shared<T: Send + Sync>(value: &T) -> &T {
