@@ -3,6 +3,7 @@ use dep_log::ThreadLog;
 use light_base::{Event, Memory, SinkFault, StoreFault, Tag};
 use machine::{Limits, Program, RunReport};
 
+mod graphs;
 mod images;
 mod logs;
 mod numbers;
