@@ -22,4 +22,4 @@ pub use put::{put_u16, put_u32};
 pub use put_pieces::put_all;
 pub use sink::{Sink, SinkFault};
 pub use store::{Store, StoreFault};
-pub use tag::{Cell, Event, Tag};
+pub use tag::{Cell, Event, Tag, pack, unpack};

@@ -1,7 +1,8 @@
 // Who wrote a word, and the word with its writer.
-ghost use Rattle.std.specs.Prelude.{◌≡◌, ◌↔◌, IsTrue, IfSome};
+ghost use Rattle.std.specs.Prelude.{◌≡◌, ◌↔◌, ◌%◌, ◌^◌, IsTrue, IfSome};
 ghost use Rattle.std.specs.Option.{SomeIff};
 ghost use Rattle.light_base.specs.Tags.{HasTag, IsTag, bits_of, writer_of};
+ghost use Rattle.light_base.specs.Cells.{packed, unpacked};
 
 use std::marker::Model;
 
@@ -10,6 +11,9 @@ const STEP_END: u32 = 1 << 28;
 
 /// The greatest number of a thread that a tag can name.
 const LAST_THREAD: u8 = 14;
+
+/// What a cell's value is worth in the cell's number, which has the tag's number in its low half.
+const HALF: u64 = 1 << 32;
 
 /// Memory step number `step` of the thread with number `thread`. Threads are numbered from 0, and steps from 1.
 ///
@@ -123,4 +127,28 @@ impl Tag {
 pub struct Cell {
     pub value: u32,
     pub tag: Tag,
+}
+
+/// The cell as one number: the value in the high 32 bits and the tag's number in the low 32. `unpack` gives the cell
+/// back.
+pub fn pack(cell: Cell) -> u64
+    ensures number { result ≡ packed cell }
+    ensures tag { IsTag (result % 2 ^ 32) }
+    ensures back { unpacked result ≡ cell }
+{
+    u64::from(cell.value) * HALF + u64::from(cell.tag.bits())
+}
+
+/// The cell with this number, whose low half is the number of a tag. `pack` gives the number back.
+pub fn unpack(word: u64) -> Cell
+    requires { IsTag (word % 2 ^ 32) }
+    ensures cell { result ≡ unpacked word }
+    ensures back { packed result ≡ word }
+{
+    Cell {
+        value: (word / HALF) as u32,
+        tag: Tag {
+            bits: (word % HALF) as u32,
+        },
+    }
 }

@@ -3,12 +3,14 @@ use dep_log::ThreadLog;
 use light_base::{Event, Memory, SinkFault, StoreFault, Tag};
 use machine::{Limits, Program, RunReport};
 
+mod graphs;
 mod images;
 mod logs;
 mod numbers;
 mod outside;
 mod programs;
 mod recordings;
+mod shared_words;
 mod texts;
 
 fn is_shared<T: Send + Sync>() {}

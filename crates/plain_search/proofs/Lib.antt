@@ -1,0 +1,9 @@
+pub mod Walks
+pub mod Rankings
+pub mod OneEnd
+pub mod Outcomes
+pub mod Choosing
+pub mod Forcing
+pub mod Bound
+pub mod Standing
+pub mod WorkedExamples

@@ -1,0 +1,8 @@
+use Rattle.std.proofs.Common.{arith}
+use Rattle.tagged_words.proofs.Seats.{store_allowed}
+use Rattle.tagged_words.proofs.words.Words.store_number.Goals as goal
+
+pub store-requires : goal.store-requires
+store-requires c =
+    store_allowed _ _ _ c.self.invariant _ _ _ c.hand.invariant _ _ c.self.view_is c.hand.view_is c.requires.own c.requires.room _ c.from.result (omega (arith, c.from.ensures, c.requires.inside))
+    c.args.new c.ranges.new.fits c.requires.tag c.requires.by
