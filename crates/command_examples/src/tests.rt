@@ -4,6 +4,7 @@ use light_top::{Status, light, status_text};
 use std::test::Fail;
 
 mod contents;
+mod inputs;
 mod outputs;
 mod recordings;
 mod rows;
@@ -29,6 +30,9 @@ fn commands_end_as_told(rt: HostRuntime) -> Result<(), Fail> {
         texts::REFUSED.as_slice(),
         texts::FAULTS.as_slice(),
         outputs::OUTPUTS.as_slice(),
+        inputs::TAKEN.as_slice(),
+        inputs::REFUSED.as_slice(),
+        inputs::FAULTS.as_slice(),
     ] {
         for row in table {
             check(&rt, alloc, row)?;

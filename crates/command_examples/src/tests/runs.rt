@@ -59,7 +59,7 @@ pub static REFUSED: [Row; 5] = [
         words: "run i 1 1 1",
         files: &[(
             "i",
-            Content::Hex("4c494d31 01 0001 0001 00000000 1500000000000000"),
+            Content::Hex("4c494d31 01 0001 0001 00000000 1600000000000000"),
         )],
         status: Status::ImageRefused(ImageFault {
             kind: ImageKind::Opcode,

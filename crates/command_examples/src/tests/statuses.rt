@@ -1,9 +1,9 @@
 // Each status, the number with which the program ends, and its line.
 use assembler::{AsmFault, AsmKind};
 use light_top::Status;
-use machine::{ImageFault, ImageKind};
+use machine::{ImageFault, ImageKind, InputFault, InputKind};
 
-pub static STATUSES: [(Status, u8, &str); 8] = [
+pub static STATUSES: [(Status, u8, &str); 10] = [
     (Status::Ok, 0, ""),
     (Status::Usage, 2, "light: usage/"),
     (Status::StoreFault, 3, "light: store fault/"),
@@ -26,5 +26,20 @@ pub static STATUSES: [(Status, u8, &str); 8] = [
         "light: text refused line 3 kind 7/",
     ),
     (Status::SinkFault, 14, "light: output fault/"),
+    (
+        Status::InputRefused(InputFault {
+            kind: InputKind::Counts,
+        }),
+        15,
+        "light: inputs refused kind 3/",
+    ),
+    (
+        Status::WrongInputs {
+            program: 1,
+            inputs: 2,
+        },
+        16,
+        "light: wrong inputs/",
+    ),
     (Status::Memory, 70, "light: out of memory/"),
 ];

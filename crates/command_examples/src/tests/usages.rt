@@ -15,17 +15,21 @@ pub const NO_COMMAND: Row = Row {
 };
 
 // With one space between two words.
-pub static USAGES: [&str; 29] = [
+pub static USAGES: [&str; 33] = [
     "",
     "run",
     "run i 07 1 1",
     "run i 1 1",
-    "run i 1 1 1 1",
+    "run i 1 1 1 1 1",
+    "run i 1 1 1 ",
     "record i l 268435456 1 1",
     "record i 1 1 1",
     "record  l 1 1 1",
     "record i  1 1 1",
     "record i l 1 01 1",
+    "record i l 1 1 1 ",
+    "record i l 1 1 1 a b",
+    "record i l 1 1",
     "list ",
     "list",
     "list i i",

@@ -1,0 +1,172 @@
+// `run` and `record` with inputs. The digests are those of another program.
+use super::contents::{Content, SMALLEST};
+use super::rows::{DONE, Row};
+use light_top::Status;
+use machine::{ImageFault, ImageKind, InputFault, InputKind};
+
+// A thread that takes two input numbers and puts out each.
+const TAKER: Content = Content::Hex(
+    "4c494d31 01 0001 0004 00000000 1501000000000000 1001000000000000 1501000000000000 1001000000000000",
+);
+
+const SEVEN_BYTES: &str = "4c494e31 01 00000001 00000007";
+
+const SEVEN: Content = Content::Hex(SEVEN_BYTES);
+
+const SEVEN_TO_NINE: Content = Content::Hex("4c494e31 01 00000003 00000007 00000008 00000009");
+
+const TWO_LISTS: Content = Content::Hex("4c494e31 02 00000000 00000001 00000007");
+
+const EMPTY_TEXT: Content = Content::Text("thread 0 input-empty steps 0 instr 0/");
+
+const SEVEN_TEXT: Content = Content::Text("thread 0 input-empty steps 0 instr 2/out 7/");
+
+const SEVEN_TO_NINE_TEXT: Content = Content::Text("thread 0 halted steps 0 instr 4/out 7/out 8/");
+
+// The logs under limits of 100: what was taken stands in them.
+const EMPTY_LOG: Content = Content::Hex(
+    "4c4c4732 01 0001 f2090ae0ae55df66c999a269b0ade029a08f2f64f23585ce0103be5814a4e7ae 00000064 00000064 00000064 06 00000000 00000000 00000000 00000000 00000000 00000000",
+);
+
+const SEVEN_LOG: Content = Content::Hex(
+    "4c4c4732 01 0001 f2090ae0ae55df66c999a269b0ade029a08f2f64f23585ce0103be5814a4e7ae 00000064 00000064 00000064 06 00000000 00000000 00000002 00000000 00000001 00000000 00000007",
+);
+
+const SEVEN_TO_NINE_LOG: Content = Content::Hex(
+    "4c4c4732 01 0001 f2090ae0ae55df66c999a269b0ade029a08f2f64f23585ce0103be5814a4e7ae 00000064 00000064 00000064 00 00000000 00000000 00000004 00000000 00000002 00000000 00000007 00000008",
+);
+
+pub static TAKEN: [Row; 7] = [
+    Row {
+        words: "run i 100 100 100 n",
+        files: &[("i", TAKER), ("n", SEVEN)],
+        text: SEVEN_TEXT,
+        ..DONE
+    },
+    Row {
+        words: "run i 100 100 100",
+        files: &[("i", TAKER), ("n", SEVEN)],
+        text: EMPTY_TEXT,
+        ..DONE
+    },
+    Row {
+        words: "run i 100 100 100 n",
+        files: &[("i", TAKER), ("n", SEVEN_TO_NINE)],
+        text: SEVEN_TO_NINE_TEXT,
+        ..DONE
+    },
+    Row {
+        words: "record i l 100 100 100 n",
+        files: &[("i", TAKER), ("n", SEVEN)],
+        text: SEVEN_TEXT,
+        after: &[("l", SEVEN_LOG)],
+        ..DONE
+    },
+    Row {
+        words: "record i l 100 100 100 n",
+        files: &[("i", TAKER), ("n", SEVEN_TO_NINE)],
+        text: SEVEN_TO_NINE_TEXT,
+        after: &[("l", SEVEN_TO_NINE_LOG)],
+        ..DONE
+    },
+    Row {
+        words: "record i l 100 100 100",
+        files: &[("i", TAKER)],
+        text: EMPTY_TEXT,
+        after: &[("l", EMPTY_LOG)],
+        ..DONE
+    },
+    // The inputs may have any name, and the log may take their place.
+    Row {
+        words: "record i 2 100 100 100 2",
+        files: &[("i", TAKER), ("2", SEVEN)],
+        text: SEVEN_TEXT,
+        after: &[("2", SEVEN_LOG)],
+        ..DONE
+    },
+];
+
+// A recording that leaves no log.
+const RECORDED: Row = Row {
+    words: "record i l 100 100 100 n",
+    after: &[("l", Content::Absent)],
+    ..DONE
+};
+
+// Bytes that are no inputs, and inputs of another number of threads. The image is looked at first.
+pub static REFUSED: [Row; 7] = [
+    Row {
+        files: &[("i", SMALLEST), ("n", Content::Sized(SEVEN_BYTES, 12))],
+        status: Status::InputRefused(InputFault {
+            kind: InputKind::Short,
+        }),
+        ..RECORDED
+    },
+    Row {
+        files: &[("i", SMALLEST), ("n", Content::Sized(SEVEN_BYTES, 14))],
+        status: Status::InputRefused(InputFault {
+            kind: InputKind::Long,
+        }),
+        ..RECORDED
+    },
+    Row {
+        files: &[("i", SMALLEST), ("n", Content::Hex("4c494e32 01 00000001 00000007"))],
+        status: Status::InputRefused(InputFault {
+            kind: InputKind::Magic,
+        }),
+        ..RECORDED
+    },
+    Row {
+        files: &[("i", SMALLEST), ("n", Content::Hex("4c494e31 01 00010001 00000007"))],
+        status: Status::InputRefused(InputFault {
+            kind: InputKind::Counts,
+        }),
+        ..RECORDED
+    },
+    Row {
+        files: &[("i", SMALLEST), ("n", TWO_LISTS)],
+        status: Status::WrongInputs {
+            program: 1,
+            inputs: 2,
+        },
+        ..RECORDED
+    },
+    Row {
+        files: &[("i", SMALLEST), ("n", Content::Sized("", 8_388_609))],
+        status: Status::TooLong { taken: 8_388_609 },
+        ..RECORDED
+    },
+    Row {
+        files: &[("i", Content::Sized("4c494d", 21))],
+        status: Status::ImageRefused(ImageFault {
+            kind: ImageKind::Magic,
+            thread: 0,
+            at: 0,
+        }),
+        ..RECORDED
+    },
+];
+
+// Each call of the store that fails, and a name that is not there.
+pub static FAULTS: [Row; 3] = [
+    Row {
+        words: "run i 100 100 100 n",
+        files: &[("i", TAKER), ("n", SEVEN)],
+        calls: &[2],
+        status: Status::StoreFault,
+        ..DONE
+    },
+    Row {
+        words: "run i 100 100 100 n",
+        files: &[("i", TAKER), ("n", SEVEN)],
+        calls: &[3],
+        text: SEVEN_TEXT,
+        ..DONE
+    },
+    Row {
+        words: "run i 100 100 100 n",
+        files: &[("i", TAKER)],
+        status: Status::StoreFault,
+        ..DONE
+    },
+];
