@@ -107,15 +107,19 @@ jumps = program (0 ∷ []) (
     instr op.Jne 1 1 9 ∷ instr op.Out 1 0 0 ∷
     instr op.Jmp 0 0 11 ∷ instr op.Out 0 0 0 ∷ []) ∷ [])
 
--- the transcript of the history in which the threads named take a step each, and then all in rounds
+-- a thread takes two input numbers and puts out each
+abbrev pub taker : ProgramValue
+taker = program (0 ∷ []) ((instr op.Input 1 0 0 ∷ instr op.Out 1 0 0 ∷ instr op.Input 1 0 0 ∷ instr op.Out 1 0 0 ∷ []) ∷ [])
+
+-- the transcript of the history in which the threads named take a step each, and then all in rounds, without inputs
 abbrev pub Follows : ProgramValue → LimitsValue → List ℕ → List ℕ → Type 0
-Follows p limits order text = transcript_of p limits (follow_of p limits order) ≡ text
+Follows p limits order text = transcript_of p limits [] (follow_of p limits [] order) ≡ text
 
 abbrev pub SmallestHalts : Type 0
-SmallestHalts = transcript_of smallest (limits_of 10 10 10) (rounds_of smallest (limits_of 10 10 10)) ≡ codes "thread 0 halted steps 0 instr 0\n"
+SmallestHalts = transcript_of smallest (limits_of 10 10 10) [] (rounds_of smallest (limits_of 10 10 10) []) ≡ codes "thread 0 halted steps 0 instr 0\n"
 
 abbrev pub OwnWriteIsRead : Type 0
-OwnWriteIsRead = transcript_of own_write (limits_of 100 100 100) (rounds_of own_write (limits_of 100 100 100))
+OwnWriteIsRead = transcript_of own_write (limits_of 100 100 100) [] (rounds_of own_write (limits_of 100 100 100) [])
     ≡ codes "thread 0 halted steps 2 instr 4\nout 7\nword 0 7\n"
 
 abbrev pub InitialValueIsRead : Type 0
@@ -127,7 +131,7 @@ UpdateIsLost = Follows lost_update (limits_of 100 100 100) (0 ∷ 1 ∷ 0 ∷ 1 
     (codes "thread 0 halted steps 2 instr 4\nout 1\nthread 1 halted steps 2 instr 4\nout 1\nword 0 1\n")
 
 abbrev pub NoStepsAreAllowed : Type 0
-NoStepsAreAllowed = transcript_of lost_update (limits_of 0 100 100) (rounds_of lost_update (limits_of 0 100 100))
+NoStepsAreAllowed = transcript_of lost_update (limits_of 0 100 100) [] (rounds_of lost_update (limits_of 0 100 100) [])
     ≡ codes "thread 0 steps-spent steps 0 instr 0\nthread 1 steps-spent steps 0 instr 0\n"
 
 abbrev pub MessageIsPassed : Type 0
@@ -165,3 +169,10 @@ NumbersAreComputed = Follows arithmetic (limits_of 100 100 100) []
 
 abbrev pub JumpsAreTaken : Type 0
 JumpsAreTaken = Follows jumps (limits_of 100 100 100) [] (codes "thread 0 halted steps 0 instr 8\nout 1\nout 1\n")
+
+-- without inputs, with too few and with enough
+abbrev pub NumbersAreTaken : Type 0
+NumbersAreTaken =
+    Follows taker (limits_of 100 100 100) [] (codes "thread 0 input-empty steps 0 instr 0\n") ×
+    (transcript_of taker (limits_of 100 100 100) ((7 ∷ []) ∷ []) [] ≡ codes "thread 0 input-empty steps 0 instr 2\nout 7\n") ×
+    (transcript_of taker (limits_of 100 100 100) ((7 ∷ 8 ∷ 9 ∷ []) ∷ []) [] ≡ codes "thread 0 halted steps 0 instr 4\nout 7\nout 8\n")

@@ -1,7 +1,7 @@
 //! What the definitions say of small programs, computed.
 #![tactic(auto)]
 
-ghost use Rattle.worked_examples.specs.Computed.{SmallestHalts, OwnWriteIsRead, InitialValueIsRead, UpdateIsLost, NoStepsAreAllowed, MessageIsPassed, ReadsAreSilent, EntriesAreSpent, AddressesWrap, ExchangesAreChained, StoresAreBlind, OtherWriterIsSeen, OtherValueIsSeen, NumbersAreComputed, JumpsAreTaken};
+ghost use Rattle.worked_examples.specs.Computed.{SmallestHalts, OwnWriteIsRead, InitialValueIsRead, UpdateIsLost, NoStepsAreAllowed, MessageIsPassed, ReadsAreSilent, EntriesAreSpent, AddressesWrap, ExchangesAreChained, StoresAreBlind, OtherWriterIsSeen, OtherValueIsSeen, NumbersAreComputed, JumpsAreTaken, NumbersAreTaken};
 
 /// The transcripts of small programs, by the definitions alone.
 pub fn computed_transcripts()
@@ -20,6 +20,7 @@ pub fn computed_transcripts()
     ensures other_value { OtherValueIsSeen }
     ensures arithmetic { NumbersAreComputed }
     ensures jumps { JumpsAreTaken }
+    ensures inputs { NumbersAreTaken }
 {}
 
 #[cfg(test)]

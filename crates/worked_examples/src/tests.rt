@@ -1,7 +1,7 @@
 // What may be shared by threads, and what may move between them.
 use dep_log::ThreadLog;
 use light_base::{Event, Memory, SinkFault, StoreFault, Tag};
-use machine::{Limits, Program, RunReport};
+use machine::{Inputs, Limits, Program, RunReport};
 
 mod graphs;
 mod images;
@@ -21,6 +21,7 @@ fn is_moved<T: Send>() {}
 fn values_cross_threads() {
     is_shared::<Program>();
     is_shared::<Limits>();
+    is_shared::<Inputs>();
     is_shared::<Memory>();
     is_shared::<Event>();
     is_shared::<Tag>();

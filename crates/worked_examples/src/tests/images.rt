@@ -71,7 +71,7 @@ static FAULTY: [(&[u8], usize, u8, usize, ImageKind, u8, u16); 19] = [
     (HALTS, 6, 0, 21, Counts, 0, 0),
     (HALTS, 5, 0x10, 21, Counts, 0, 0),
     (TWO, 9, 0x10, 47, Counts, 0, 0),
-    (HALTS, 13, 21, 21, Opcode, 0, 0),
+    (HALTS, 13, 22, 21, Opcode, 0, 0),
     (TWO, 39, 255, 47, Opcode, 1, 1),
     (TWO, 24, 16, 47, Register, 0, 1),
     (TWO, 32, 16, 47, Register, 1, 0),

@@ -2,7 +2,7 @@
 // expected values are worked out by hand, those of the last six by a model of the machine written apart from it.
 use super::programs::{lines_of, program_of};
 use light_base::Tag;
-use machine::Limits;
+use machine::{Inputs, Limits};
 use recorder::{Recorded, record_turns};
 use replay_model::Entry;
 use std::alloc::{AllocError, Global};
@@ -345,8 +345,9 @@ fn recorded(rt: &impl Abort, alloc: Global, row: &Row) -> Result<Recorded, Fail>
     let (steps, instr, entries) = row.limits;
     let limits = Limits::new(steps, instr, entries).ok_or("these are limits")?;
     let count = program.threads_count();
+    let inputs = Inputs::none(alloc, count as u8)?;
     assert!(rt; row.order.iter().all(|thread| usize::from(*thread) < count));
-    Ok(record_turns(alloc, &program, &limits, row.order)?)
+    Ok(record_turns(alloc, &program, &limits, &inputs, row.order)?)
 }
 
 // Whether the log tells of each thread's end what its report tells, and keeps the limits. No image is known to it yet.
@@ -360,6 +361,7 @@ fn agrees(recorded: &Recorded, limits: (u32, u32, u32)) -> bool {
             logged.end() == report.end()
                 && logged.steps() == report.steps()
                 && logged.instr() == report.instr()
+                && logged.taken().len() == report.taken() as usize
         })
 }
 
