@@ -24,4 +24,5 @@ returns c = record {
   other_value = refl;
   arithmetic = refl;
   jumps = refl;
+  inputs = (refl, refl, refl);
 }
