@@ -36,7 +36,22 @@ const SEVEN_TO_NINE_LOG: Content = Content::Hex(
     "4c4c4732 01 0001 f2090ae0ae55df66c999a269b0ade029a08f2f64f23585ce0103be5814a4e7ae 00000064 00000064 00000064 00 00000000 00000000 00000004 00000000 00000002 00000000 00000007 00000008",
 );
 
-pub static TAKEN: [Row; 7] = [
+// Two threads that each put out a number of their own, which the first writes to word 0 too.
+const OWN_NUMBERS: Content = Content::Hex(
+    "4c494d31 02 0001 0003 0002 00000000 1501000000000000 1201000000000000 1001000000000000 1501000000000000 1001000000000000",
+);
+
+const FIVE_AND_SIX: Content = Content::Hex("4c494e31 02 00000001 00000001 00000005 00000006");
+
+pub static TAKEN: [Row; 8] = [
+    Row {
+        words: "run i 100 100 100 n",
+        files: &[("i", OWN_NUMBERS), ("n", FIVE_AND_SIX)],
+        text: Content::Text(
+            "thread 0 halted steps 1 instr 3/out 5/thread 1 halted steps 0 instr 2/out 6/word 0 5/",
+        ),
+        ..DONE
+    },
     Row {
         words: "run i 100 100 100 n",
         files: &[("i", TAKER), ("n", SEVEN)],
