@@ -1,13 +1,23 @@
 -- What follows from how a command ended.
-use Rattle.std.proofs.Common.{Option, None, Some, IfSome, IsOkAnd, sym, subst}
+use Rattle.std.proofs.Common.{◌≡◌, ℕ, List, Option, None, Some, Result, Ok, Err, IfOk, IfSome, IsOkAnd, sym, subst}
 use Rattle.light_base.specs.FileMap.{Files}
 use Rattle.light_top.specs.Outputs.{Output}
-use Rattle.light_top.specs.Given.{given, Gives}
+use Rattle.machine.specs.Inputs.{InputsValue}
+use Rattle.light_top.specs.Given.{◌>>=◌, numbers_in, matched, inputs_in, given, Gives}
 use Rattle.light_top.specs.Tasks.{Means}
 use Rattle.light_top.specs.declared.words.Command.{Command}
 use Rattle.light_top.specs.declared.task.Task.{Task}
+use Rattle.light_top.specs.declared.status.Status.{Status}
 
 -- what a task means is meant by the command that it was given for
 pub is_meant : (files : Option Files) (command : Command) (task : Task) (output : Output) → Gives files (given command) task → Means task output → IfSome files (λ fs. IsOkAnd (given command fs) (λ t. Means t output))
 is_meant None command task output gives means = tt
 is_meant (Some fs) command task output gives means = subst (λ r. IsOkAnd r (λ t. Means t output)) (sym gives) means
+
+-- inputs that the files give, and that match the program
+pub gives_matched : (files : Option Files) (name : Option (List ℕ)) (own : List ℕ) (threads : ℕ) (inputs : InputsValue) (result : Result InputsValue Status) → name ≡ Some own →
+    Gives files (λ fs. numbers_in fs own) inputs → IfOk result (λ r. matched threads inputs ≡ Ok r) → IfOk result (Gives files (λ fs. inputs_in fs name threads))
+gives_matched files name own threads inputs (Err s) is gives fits = tt
+gives_matched None name own threads inputs (Ok r) is gives fits = tt
+gives_matched (Some fs) name own threads inputs (Ok r) is gives fits =
+    subst (λ n. inputs_in fs n threads ≡ Ok r) (sym is) (subst (λ (numbers : Result InputsValue Status). (numbers >>= matched threads) ≡ Ok r) (sym gives) fits)

@@ -116,9 +116,9 @@ fn load_numbers<S: Store>(
 // As many input lists as a program has threads.
 fn matched(inputs: Inputs, threads: usize) -> Result<Inputs, Status>
     requires { threads ≤ 15 }
-    ensures ok { IfOk result (λ inputs. matched threads inputs ≡ Ok inputs) }
+    ensures ok { IfOk result (λ kept. matched threads inputs ≡ Ok kept) }
     ensures err { IfErr result (NotRead (matched threads inputs)) }
-    ensures same { IfOk result (λ inputs. length inputs ≡ threads) }
+    ensures same { IfOk result (λ kept. length kept ≡ threads) }
 {
     let lists = inputs.threads_count();
     if lists == threads {
