@@ -14,4 +14,3 @@ pub mod ImageInstrs
 pub mod Keeping
 pub mod ImageLaws
 pub mod ImageWriting
-pub mod ImageExamples
