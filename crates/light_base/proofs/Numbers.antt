@@ -3,7 +3,7 @@ use Rattle.std.proofs.Common.{◌≡◌, ◌↔◌, ℕ, ◌+◌, ◌-◌, ◌^�
 use Rattle.std.specs.Int.{Width, w16, w32, byte_len, from_be_bytes, to_be_bytes}
 use Rattle.std.proofs.lemmas.Bool.{le-leb, lt-leb, leb-true, cond-true, cond-false, cases_lt}
 use Rattle.std.proofs.lemmas.List.{length-take, length-take-le, length-drop, get_or-take, get_or-drop, get_or_past}
-use Rattle.std.proofs.lemmas.Nat.{be_bytes_2, be_bytes_4, from_be_bytes-to_be_bytes_2, from_be_bytes-to_be_bytes_4}
+use Rattle.std.proofs.lemmas.Nat.{be_bytes_4, from_be_bytes-to_be_bytes_4}
 use Rattle.std.proofs.lemmas.Option.{cond_some}
 use Rattle.byteorder.specs.Endian.{big_number}
 use Rattle.light_base.specs.Numbers.{IsBytes, big_endian_at}
@@ -48,14 +48,6 @@ big_number_4 bytes = omega arith
 -- a part that is as long as it should be is there
 there_by_length : (bytes : List ℕ) (at n : ℕ) → 0 < n → length (slice_range bytes at (at + n)) ≡ n → at + n ≤ length bytes
 there_by_length bytes at n h e = omega (arith, length-take (at + n - at) (drop at bytes), length-drop at bytes)
-
--- a number of 16 bits is read exactly where its bytes stand
-pub big_endian_at-spelled_2 : (bytes : List ℕ) (at n : ℕ) → IsBytes bytes → n < 2 ^ 16 → (big_endian_at w16 bytes at ≡ Some n) ↔ (slice_range bytes at (at + 2) ≡ to_be_bytes w16 n)
-big_endian_at-spelled_2 bytes at n h k = (
-  λ e. let found = big_endian_at-within w16 bytes at n e in
-      sym (be_bytes_2 (slice_range bytes at (at + 2)) n (length-slice_range bytes at 2 found.0) (IsBytes-slice_range bytes at (at + 2) h) (sym found.1)),
-  λ e. big_endian_at-there w16 bytes at (there_by_length bytes at 2 (omega arith) (ap length e)) ∙ ap (λ bs. Some (from_be_bytes w16 bs)) e ∙ ap Some (from_be_bytes-to_be_bytes_2 n k),
-)
 
 -- a number of 32 bits is read exactly where its bytes stand
 pub big_endian_at-spelled_4 : (bytes : List ℕ) (at n : ℕ) → IsBytes bytes → n < 2 ^ 32 → (big_endian_at w32 bytes at ≡ Some n) ↔ (slice_range bytes at (at + 4) ≡ to_be_bytes w32 n)

@@ -1,5 +1,5 @@
 -- The number of a tag and its writer, both ways. `bits_of-writer_of` stands beside the definitions.
-use Rattle.std.proofs.Common.{◌≡◌, ℕ, zero, suc, ◌+◌, ◌*◌, ◌/◌, ◌%◌, ◌^◌, ◌<◌, Option, Some, None, refl, sym, ap, ◌∙◌, arith, inl, inr}
+use Rattle.std.proofs.Common.{◌≡◌, ℕ, zero, suc, ◌+◌, ◌*◌, ◌/◌, ◌%◌, ◌^◌, ◌<◌, Option, Some, None, refl, arith, inl, inr}
 use Rattle.light_base.specs.declared.tag.Event.{Event}
 use Rattle.light_base.specs.Tags.{IsTag, IsWriter, bits_of, writer_of}
 
@@ -23,10 +23,6 @@ pub writer_of-bits_of : (writer : Option Event) → IsWriter writer → writer_o
 writer_of-bits_of None h = refl
 writer_of-bits_of (Some event) h = named _ event.thread event.step (thread_of event.thread event.step h.last) (step_of event.thread event.step h.last)
 
--- writers with the same number are the same
-pub bits_of-injective : (a b : Option Event) → IsWriter a → IsWriter b → bits_of a ≡ bits_of b → a ≡ b
-bits_of-injective a b p q e = sym (writer_of-bits_of a p) ∙ ap writer_of e ∙ writer_of-bits_of b q
-
 -- a writer's number is a tag's
 pub bits_of-IsTag : (writer : Option Event) → IsWriter writer → IsTag (bits_of writer)
 bits_of-IsTag None h = inl refl
@@ -36,9 +32,3 @@ bits_of-IsTag (Some event) h = inr (omega (arith, h.first), omega (arith, step_o
 pub bits_of-lt : (writer : Option Event) → IsWriter writer → bits_of writer < 2 ^ 32
 bits_of-lt None h = omega arith
 bits_of-lt (Some event) h = omega (arith, h.thread, h.last)
-
--- a tag's number of 32 bits names nobody, or an event that has a tag
-pub writer_of-IsWriter : (n : ℕ) → IsTag n → n < 2 ^ 32 → IsWriter (writer_of n)
-writer_of-IsWriter zero h k = tt
-writer_of-IsWriter (suc n) (inl e) k = absurd (omega (arith, e))
-writer_of-IsWriter (suc n) (inr h) k = record { thread = omega arith; first = omega (arith, h.1); last = omega arith }

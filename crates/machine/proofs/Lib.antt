@@ -18,5 +18,3 @@ pub mod ImageLaws
 pub mod ImageWriting
 pub mod InputHead
 pub mod InputLaws
-pub mod ImageExamples
-pub mod InputExamples

@@ -1,16 +1,16 @@
 -- The log of a thread after one more step.
 use Rattle.std.proofs.Common.{◌≡◌, ℕ, suc, ◌+◌, ◌-◌, ◌<◌, ◌≤◌, Bool, true, false, cond, eqb, List, [], ◌∷◌, ◌++◌, length, refl, sym, ◌∙◌, ap, subst, arith, inl, inr, ◌⊎◌, map, Contains}
-use Rattle.std.specs.Prelude.{Option, Some, None, ◌&&◌, max, All, slice_index_or, slice_set, ◌≢◌}
+use Rattle.std.specs.Prelude.{Option, Some, None, ◌&&◌, max, All}
 use Rattle.std.specs.List.{list_any}
-use Rattle.std.proofs.lemmas.List.{append_assoc, append-nil, map-append, length-map, length-set, get_or-map, get_or-set_same, get_or-set_other, get_or_default, same_lists}
-use Rattle.std.proofs.lemmas.Bool.{cases_Bool, eq-eqb, eqb-true, ne_eqb, and_from, and_parts, cond-true, cond-false, cases_eq}
+use Rattle.std.proofs.lemmas.List.{append_assoc, append-nil, map-append}
+use Rattle.std.proofs.lemmas.Bool.{cases_Bool, eq-eqb, eqb-true, ne_eqb, and_from, and_parts, cond-true, cond-false}
 use Rattle.replay_model.specs.Steps.{Tag, Cell, Step, same_tag, word_of}
 use Rattle.replay_model.specs.ThreadLogs.{Entry, saw, is_sight, numbers, least, greatest, entry_at, entries_from, thread_log}
 use Rattle.replay_model.specs.MoreReads.{is_entry_for, touched, with_read}
 use Rattle.replay_model.proofs.Tags.{same_tag-true, same_tag-same, any-element, element-any}
 use Rattle.replay_model.proofs.ThreadLogs.{nth, saw-found, saw-from, entry_for, greatest_over, greatest_at, thread_log-covers, thread_log-stands}
 use Rattle.std.proofs.lemmas.List.Elements.{All-weaker, All-contains_itself}
-use Rattle.std.proofs.lemmas.List.Folds.{map_fixed, list_any_none, list_any_at}
+use Rattle.std.proofs.lemmas.List.Folds.{map_fixed, list_any_none}
 
 -- whether there is no number
 abbrev pub is_nil : List ℕ → Bool
@@ -237,36 +237,3 @@ with_read-new word tag n entries none =
     same : All (λ (x : Entry). touched word tag n x ≡ x) entries
     same = All-weaker (λ (x : Entry). is_entry_for word tag x ≡ false) (λ x. touched word tag n x ≡ x)
         (λ x f. ap (λ (b : Bool). record { word = x.word; source = x.source; first = x.first; last = cond b n x.last }) f) entries absent
-
--- where the entry at k alone is the pair's, its last changes
-pub with_read-set : (word : ℕ) (tag : Tag) (n : ℕ) (entries : List Entry) (k : ℕ) (d : Entry) → k < length entries →
-    is_entry_for word tag (slice_index_or entries k d) ≡ true →
-    ((j : ℕ) → j ≢ k → j < length entries → is_entry_for word tag (slice_index_or entries j d) ≡ false) →
-    with_read word tag n entries ≡
-    slice_set entries k (record { word = (slice_index_or entries k d).word; source = (slice_index_or entries k d).source; first = (slice_index_or entries k d).first; last = n })
-with_read-set word tag n entries k d l here others =
-    ap (λ (b : Bool). map (touched word tag n) entries ++ cond b [] (record { word = word; source = tag; first = n; last = n } ∷ []))
-    (list_any_at (is_entry_for word tag) entries k d l here) ∙
-    append-nil (map (touched word tag n) entries) ∙ same_lists (map (touched word tag n) entries) (slice_set entries k set) (length-map entries (touched word tag n) ∙ sym (length-set entries k set)) at
-  where
-    set : Entry
-    set = record { word = (slice_index_or entries k d).word; source = (slice_index_or entries k d).source; first = (slice_index_or entries k d).first; last = n }
-
-    at : (j : ℕ) (x : Entry) → j < length (map (touched word tag n) entries) → slice_index_or (map (touched word tag n) entries) j x ≡ slice_index_or (slice_set entries k set) j x
-    at j x jl = go (cases_eq j k)
-      where
-        n_is : length (map (touched word tag n) entries) ≡ length entries
-        n_is = length-map entries (touched word tag n)
-
-        je : j < length entries
-        je = let q = n_is in omega (arith, q, jl)
-
-        go : (j ≡ k) ⊎ (j ≡ k → ⊥) → slice_index_or (map (touched word tag n) entries) j x ≡ slice_index_or (slice_set entries k set) j x
-        go (inl e) =
-            get_or-map (touched word tag n) entries j d x je ∙ ap (λ i. touched word tag n (slice_index_or entries i d)) e ∙
-            ap (λ (b : Bool). record { word = (slice_index_or entries k d).word; source = (slice_index_or entries k d).source; first = (slice_index_or entries k d).first; last = cond b n (slice_index_or entries k d).last }) here ∙
-            sym (ap (λ i. slice_index_or (slice_set entries k set) i x) e ∙ get_or-set_same entries k set x l)
-        go (inr ne) =
-            get_or-map (touched word tag n) entries j d x je ∙
-            ap (λ (b : Bool). record { word = (slice_index_or entries j d).word; source = (slice_index_or entries j d).source; first = (slice_index_or entries j d).first; last = cond b n (slice_index_or entries j d).last }) (others j ne je) ∙
-            sym (get_or-set_other entries k j set x ne ∙ get_or_default entries j x d je)

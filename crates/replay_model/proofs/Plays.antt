@@ -91,11 +91,6 @@ history_of-ended threads (t ∷ turns) world h =
     ap (λ (b : Bool). cond b [] (t ∷ []) ++ history_of threads turns (move threads keep_all t world)) (h t) ∙
     ap (λ (w : World). history_of threads turns w) (move_ended threads keep_all t world (h t)) ∙ history_of-ended threads turns world h
 
-pub play-ended : (threads : Threads) (turns : List ℕ) (world : World) → HaveEnded threads world → play threads turns world ≡ world
-unfolding play
-play-ended threads [] world h = refl
-play-ended threads (t ∷ turns) world h = ap (λ (w : World). play threads turns w) (move_ended threads keep_all t world (h t)) ∙ play-ended threads turns world h
-
 -- threads past the count have ended too
 pub ended-whole : (threads : Threads) (count : ℕ) (world : World) → HasOnly threads count → length world.threads ≡ count → IsWhole threads world → HaveEnded threads world
 ended-whole threads count world only c whole t = go (cases_lt t (length world.threads))
