@@ -264,7 +264,7 @@ impl Core {
         }
     }
 
-    /// `go_with` for a thread without input numbers: its `in` ends it.
+    /// Goes on as `go_with` does with an empty input list: an `in` ends the thread.
     pub fn go(&mut self, program: &Program, limits: &Limits, full: bool) -> Result<Want, Memory>
         requires { self.old.thread < length program.now.threads }
         ensures ok { IfOk result (λ wanted. (self.new ≡ settled program.now limits.now [] full self.old) × (self.new.pending ≡ Some wanted)) }
