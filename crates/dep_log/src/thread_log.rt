@@ -25,13 +25,7 @@ impl Model for ThreadLog {
 
 impl ThreadLog {
     /// The log with these parts.
-    pub fn new(
-        entries: Vec<Entry>,
-        steps: u32,
-        instr: u32,
-        end: End,
-        taken: Vec<u32>,
-    ) -> ThreadLog
+    pub fn new(entries: Vec<Entry>, steps: u32, instr: u32, end: End, taken: Vec<u32>) -> ThreadLog
         ensures { result ≡ record { entries = entries.items; steps = steps; instr = instr; end = end; taken = taken.items } }
     {
         ThreadLog {

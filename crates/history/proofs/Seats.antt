@@ -23,7 +23,7 @@ use Rattle.history.specs.Playing.{run_core, IsFresh, IsSeat, Takes, Keeps}
 -- it comes to what its steps made of it
 pub run_core-settled : (p : ProgramValue) (limits : LimitsValue) (inputs : InputsValue) (t : ℕ) (steps : List Step) (seat : Seat) → IsSeat p limits inputs t steps seat →
     run_core p limits inputs seat ≡ state_after p limits inputs t steps
-run_core-settled p limits inputs t steps seat is = 
+run_core-settled p limits inputs t steps seat is =
     ap (λ (u : ℕ). settled p limits (inputs_of inputs u) (nat_le limits.entries (length seat.seen.keys)) seat.core) is.thread ∙
     ap (λ (n : ℕ). settled p limits (inputs_of inputs t) (nat_le limits.entries n) seat.core) is.entries ∙ is.core
 

@@ -97,11 +97,7 @@ fn read_numbers(alloc: Global, bytes: &[u8]) -> Result<Inputs, Status>
 }
 
 // The inputs in a file.
-fn load_numbers<S: Store>(
-    alloc: Global,
-    store: &mut S,
-    name: &Name<'_>,
-) -> Result<Inputs, Status>
+fn load_numbers<S: Store>(alloc: Global, store: &mut S, name: &Name<'_>) -> Result<Inputs, Status>
     ensures ok { IfOk result (Gives (S.files store.old) (λ files. numbers_in files name.now)) }
     ensures err { IfErr result (NotGiven (S.files store.old) (S.sound store.old) (S.faults store.old) (S.faults store.new) (λ files. numbers_in files name.now)) }
 

@@ -47,12 +47,7 @@ pub enum Task<'a> {
 }
 
 // The transcript of a program whose threads take turns in rounds.
-fn play(
-    alloc: Global,
-    program: &Program,
-    limits: Limits,
-    inputs: &Inputs,
-) -> Result<Bytes, Memory>
+fn play(alloc: Global, program: &Program, limits: Limits, inputs: &Inputs) -> Result<Bytes, Memory>
     requires { length inputs.now ≡ length program.now.threads }
     ensures { IfOk result (λ text. text ≡ transcript_of program.now limits inputs.now (rounds_of program.now limits inputs.now)) }
 {

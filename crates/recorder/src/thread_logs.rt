@@ -18,13 +18,7 @@ fn thread_log(
 {
     let count = list.len().min(report.taken() as usize);
     let taken = Vec::from_slice(alloc, &list[..count])?;
-    Ok(ThreadLog::new(
-        entries,
-        report.steps(),
-        report.instr(),
-        report.end(),
-        taken,
-    ))
+    Ok(ThreadLog::new(entries, report.steps(), report.instr(), report.end(), taken))
 }
 
 // The logs of all threads.

@@ -125,14 +125,20 @@ pub static REFUSED: [Row; 7] = [
         ..RECORDED
     },
     Row {
-        files: &[("i", SMALLEST), ("n", Content::Hex("4c494e32 01 00000001 00000007"))],
+        files: &[
+            ("i", SMALLEST),
+            ("n", Content::Hex("4c494e32 01 00000001 00000007")),
+        ],
         status: Status::InputRefused(InputFault {
             kind: InputKind::Magic,
         }),
         ..RECORDED
     },
     Row {
-        files: &[("i", SMALLEST), ("n", Content::Hex("4c494e31 01 00010001 00000007"))],
+        files: &[
+            ("i", SMALLEST),
+            ("n", Content::Hex("4c494e31 01 00010001 00000007")),
+        ],
         status: Status::InputRefused(InputFault {
             kind: InputKind::Counts,
         }),
