@@ -3,6 +3,7 @@ use Rattle.std.specs.Prelude.{◌≡◌, ℕ, zero, suc, ◌+◌, ◌-◌, ◌<�
 use Rattle.light_base.specs.declared.memory.Memory.{Memory}
 use Rattle.plain_search.specs.declared.Edge.{Edge}
 use Rattle.plain_search.specs.Edges.{IsOrLeadsTo}
+pub use Rattle.plain_search.specs.Chains.{links, chains_from}
 use Rattle.order_graph.specs.declared.thread_graph.Added.{Added}
 use Rattle.order_graph.specs.declared.thread_graph.Added.TheVariants.{In, Cycle}
 use Rattle.order_graph.specs.Shapes.{Shape, shape, arrow, lanes_of, IsBefore}
@@ -21,16 +22,6 @@ graph_state counts added spare = record { counts = counts; added = added; spare 
 -- nodes are numbered from 0, thread after thread
 abbrev pub nodes_of : GraphState → ℕ
 nodes_of g = sum g.counts
-
--- so many edges from node n on, each to the next node
-abbrev pub links : ℕ → ℕ → List Edge
-links n zero = []
-links n (suc count) = arrow n (n + 1) ∷ links (n + 1) count
-
--- the chains of threads with so many nodes each, from node n on
-abbrev pub chains_from : ℕ → List ℕ → List Edge
-chains_from n [] = []
-chains_from n (count ∷ counts) = links n (count - 1) ++ chains_from (n + count) counts
 
 -- the edges of the chains, and those that were added
 abbrev pub edges_of : GraphState → List Edge

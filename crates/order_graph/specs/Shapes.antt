@@ -1,6 +1,7 @@
 -- Nodes of threads, and which comes before which.
 use Rattle.std.specs.Prelude.{◌≡◌, ℕ, ◌+◌, ◌<◌, ◌⊎◌, List, [], ◌∷◌, ◌++◌, length, slice_index, take, replicate, Contains}
 use Rattle.plain_search.specs.declared.Edge.{Edge}
+pub use Rattle.plain_search.specs.Chains.{arrow}
 
 -- the thread of each node, and the edges that were added between nodes, the newest last
 pub record Shape : Type 0 where
@@ -9,9 +10,6 @@ pub record Shape : Type 0 where
 
 abbrev pub shape : List ℕ → List Edge → Shape
 shape lanes added = record { lanes = lanes; added = added }
-
-abbrev pub arrow : ℕ → ℕ → Edge
-arrow u v = record { from = u; to = v }
 
 -- the threads of nodes that are numbered thread after thread, from thread t on
 abbrev pub lanes_from : ℕ → List ℕ → List ℕ

@@ -1,0 +1,4 @@
+//! What a log asks of an order of its events.
+#![tactic(auto)]
+
+pub mod examples;
