@@ -1,2 +1,5 @@
 pub mod Places
 pub mod AccessLogs
+pub mod Noted
+pub mod Chains
+pub mod MoreReads

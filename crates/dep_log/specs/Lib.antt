@@ -1,3 +1,5 @@
 pub mod AccessLogs
+pub mod Buckets
+pub mod DepLogs
 pub mod Places
 pub mod RunLogs

@@ -1,0 +1,118 @@
+// Entries in buckets by word and source. Of each bucket the place of the newest entry is kept, and of each entry that of
+// the next older one of its bucket: each as the place plus one, where 0 is none.
+ghost use Rattle.std.specs.Prelude.{◌≡◌, false, ◌+◌, ◌<◌, ◌++◌, ◌∷◌, [], ◌^◌, length, vec_len, vec_capacity};
+ghost use Rattle.std.specs.List.{list_any};
+ghost use Rattle.replay_model.specs.MoreReads.{is_entry_for, with_read};
+ghost use Rattle.dep_log.specs.Buckets.{bucket_of, pair_of, AreBuckets, AreOnce, HasPlace, IsPlaceOf};
+
+use light_base::Tag;
+use replay_model::Entry;
+
+/// What a half of a number of 64 bits is worth in it.
+const HALF: u64 = 1 << 32;
+
+/// Spreads pairs over buckets: 2^64 divided by the golden ratio.
+const SPREAD: u64 = 11_400_714_819_323_198_485;
+
+// A word and a source as one number.
+#[tactic(auto, unfolding(crate::specs::Buckets::pair_of))]
+fn pair_of(word: u16, source: Tag) -> u64
+    ensures { result ≡ pair_of word source }
+{
+    u64::from(word) * HALF + u64::from(source.bits())
+}
+
+// The bucket of a word and a source, of so many.
+#[tactic(auto, unfolding(crate::specs::Buckets::bucket_of))]
+pub(crate) fn bucket_of(count: usize, word: u16, source: Tag) -> usize
+    requires some { 0 < count }
+    requires few { count < 2 ^ 16 }
+    ensures value { result ≡ bucket_of count word source }
+    ensures below { result < count }
+{
+    let hash = pair_of(word, source).wrapping_mul(SPREAD) / HALF;
+    (hash * count as u64 / HALF) as usize
+}
+
+// The place of the entry of a word and a source, which have this bucket. Its newest entry is looked at first.
+pub(crate) fn find(
+    entries: &[Entry],
+    heads: &[u16],
+    older: &[u16],
+    bucket: usize,
+    word: u16,
+    source: Tag,
+) -> Option<usize>
+    requires buckets { AreBuckets entries.now heads.now older.now }
+    requires bucket { bucket ≡ bucket_of (length heads.now) word source }
+    requires below { bucket < length heads.now }
+    ensures { IsPlaceOf entries.now word source result }
+{
+    let mut at = heads[bucket];
+    while at > 0 {
+        let place = usize::from(at) - 1;
+        let entry = &entries[place];
+        if entry.word == word && entry.source.bits() == source.bits() {
+            return Some(place);
+        }
+        at = older[place];
+    }
+    None
+}
+
+// Adds an entry to its bucket.
+pub(crate) fn push(
+    entries: &mut Vec<Entry>,
+    heads: &mut Vec<u16>,
+    older: &mut Vec<u16>,
+    bucket: usize,
+    entry: Entry,
+)
+    requires buckets { AreBuckets entries.old.items heads.old.items older.old.items }
+    requires bucket { bucket ≡ bucket_of (length heads.old.items) entry.word entry.source }
+    requires below { bucket < length heads.old.items }
+    requires few { length entries.old.items + 1 < 2 ^ 16 }
+    requires entry_room { vec_len entries.old < vec_capacity entries.old }
+    requires older_room { vec_len older.old < vec_capacity older.old }
+    ensures items { entries.new.items ≡ entries.old.items ++ entry ∷ [] }
+    ensures buckets { AreBuckets entries.new.items heads.new.items older.new.items }
+    ensures entry_room { vec_capacity entries.new ≡ vec_capacity entries.old }
+    ensures older_room { vec_capacity older.new ≡ vec_capacity older.old }
+{
+    older.push_reserved(heads[bucket]);
+    entries.push_reserved(entry);
+    heads[bucket] = entries.len() as u16;
+}
+
+// Logs a read of a word that its source had written, where the pair has its entry or there is room for one more.
+pub(crate) fn note(
+    entries: &mut Vec<Entry>,
+    heads: &mut Vec<u16>,
+    older: &mut Vec<u16>,
+    word: u16,
+    source: Tag,
+    step: u32,
+)
+    requires buckets { AreBuckets entries.old.items heads.old.items older.old.items }
+    requires once { AreOnce entries.old.items }
+    requires room { list_any (is_entry_for word source) entries.old.items ≡ false → HasPlace entries.old older.old }
+    ensures items { entries.new.items ≡ with_read word source step entries.old.items }
+    ensures buckets { AreBuckets entries.new.items heads.new.items older.new.items }
+    ensures once { AreOnce entries.new.items }
+    ensures entry_room { vec_capacity entries.new ≡ vec_capacity entries.old }
+    ensures older_room { vec_capacity older.new ≡ vec_capacity older.old }
+{
+    let bucket = bucket_of(heads.len(), word, source);
+    match find(entries, heads, older, bucket, word, source) {
+        Some(place) => entries[place].last = step,
+        None => {
+            let entry = Entry {
+                word,
+                source,
+                first: step,
+                last: step,
+            };
+            push(entries, heads, older, bucket, entry);
+        }
+    }
+}
