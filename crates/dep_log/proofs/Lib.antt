@@ -3,3 +3,4 @@ pub mod AccessLogs
 pub mod Noted
 pub mod Chains
 pub mod MoreReads
+pub mod Digests

@@ -2,4 +2,3 @@ pub mod AccessLogs
 pub mod Buckets
 pub mod DepLogs
 pub mod Places
-pub mod RunLogs

@@ -1,6 +1,6 @@
 // What is logged of a run of all threads.
 ghost use Rattle.std.specs.Prelude.{◌≡◌};
-ghost use Rattle.dep_log.specs.RunLogs.{IsRunLog};
+ghost use Rattle.replay_model.specs.WellFormed.{IsWellFormed};
 
 use crate::ThreadLog;
 use light_base::Tag;
@@ -8,8 +8,9 @@ use machine::Limits;
 use std::marker::Model;
 
 /// The log of a run of all threads: the digest of the program's image, the limits, each thread's log, and the tag that
-/// each word has at the end. It has 1 to 15 threads with at most 16,384 entries and 65,536 input numbers each, and 1 to
-/// 4,096 words.
+/// each word has at the end. It is always well formed: its counts are in range, each thread keeps to the limits, entries
+/// and last tags name steps that were taken, the entries of a thread stand by rising first, and those of one word have
+/// different sources and do not overlap.
 #[derive(Debug, Drop)]
 pub struct RunLog {
     digest: [u8; 32],
@@ -23,22 +24,22 @@ impl Model for RunLog {
 
     ghost Value = { Log };
 
-    ghost use Rattle.dep_log.specs.RunLogs.{IsRunLog};
+    ghost use Rattle.replay_model.specs.WellFormed.{IsWellFormed};
 
     ghost view = { λ l. record { digest = l.digest; limits = l.limits; threads = l.threads.items; lasts = l.finals.items } };
 
-    ghost invariant = { λ l. IsRunLog (record { digest = l.digest; limits = l.limits; threads = l.threads.items; lasts = l.finals.items }) };
+    ghost invariant = { λ l. IsWellFormed (record { digest = l.digest; limits = l.limits; threads = l.threads.items; lasts = l.finals.items }) };
 }
 
 impl RunLog {
-    /// The log with these parts.
+    /// The log with these parts, which make a well-formed one.
     pub fn new(
         digest: [u8; 32],
         limits: Limits,
         threads: Vec<ThreadLog>,
         finals: Vec<Tag>,
     ) -> RunLog
-        requires { IsRunLog (record { digest = digest; limits = limits; threads = threads.items; lasts = finals.items }) }
+        requires { IsWellFormed (record { digest = digest; limits = limits; threads = threads.items; lasts = finals.items }) }
         ensures { result ≡ record { digest = digest; limits = limits; threads = threads.items; lasts = finals.items } }
     {
         RunLog {
@@ -73,7 +74,7 @@ impl RunLog {
     /// What is logged of each thread.
     pub fn threads(&self) -> &[ThreadLog]
         ensures value { result.now ≡ self.now.threads }
-        ensures rules { IsRunLog self.now }
+        ensures rules { IsWellFormed self.now }
     {
         &self.threads
     }
@@ -81,7 +82,7 @@ impl RunLog {
     /// The tag that each word has at the end.
     pub fn finals(&self) -> &[Tag]
         ensures value { result.now ≡ self.now.lasts }
-        ensures rules { IsRunLog self.now }
+        ensures rules { IsWellFormed self.now }
     {
         &self.finals
     }
@@ -92,7 +93,7 @@ impl RunLog {
         ensures limits { result.1 ≡ self.limits }
         ensures threads { result.2.items ≡ self.threads }
         ensures finals { result.3.items ≡ self.lasts }
-        ensures rules { IsRunLog self }
+        ensures rules { IsWellFormed self }
     {
         let digest = self.digest;
         (digest, self.limits, self.threads, self.finals)

@@ -2,7 +2,6 @@
 ghost use Rattle.std.specs.Prelude.{◌≡◌, ◌+◌, ◌*◌, ◌≤◌, ◌++◌, All, IfOk, OnOk, length};
 ghost use Rattle.std.specs.List.{flat_map};
 ghost use Rattle.std.specs.Int.{w32, to_be_bytes};
-ghost use Rattle.dep_log.specs.RunLogs.{IsRunLog};
 ghost use Rattle.log_file.specs.Spelling.{address_of_end, code_of_end, entries_bytes, entry_count, entry_bytes, head_bytes, header_bytes, limits_bytes, spelling, tag_bytes, taken_bytes, taken_count, text_len};
 
 use dep_log::{Entry, RunLog, ThreadLog};

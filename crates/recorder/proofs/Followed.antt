@@ -1,5 +1,5 @@
 -- What a machine has played that follows an order and then takes rounds.
-use Rattle.std.proofs.Common.{◌≡◌, ℕ, List, [], ◌∷◌, ◌++◌, length, refl, sym, ◌∙◌, ap}
+use Rattle.std.proofs.Common.{◌≡◌, ℕ, List, ◌++◌, length, refl, sym, ◌∙◌, ap}
 use Rattle.replay_model.specs.Histories.{play, history_of, round_turns}
 use Rattle.machine.specs.Programs.{ProgramValue, LimitsValue}
 use Rattle.machine.specs.Inputs.{InputsValue}

@@ -1,10 +1,9 @@
--- The logs of threads by their reports are those of their steps, and the log of a history is one that a program can hold.
-use Rattle.std.proofs.Common.{◌≡◌, ℕ, zero, suc, ◌+◌, ◌<◌, ◌≤◌, List, [], ◌∷◌, ◌++◌, length, take, refl, sym, ◌∙◌, ap, subst, arith}
-use Rattle.std.specs.Prelude.{map, All, slice_index_or}
+-- The logs of threads by their reports are those of their steps, and the log of a history is well formed.
+use Rattle.std.proofs.Common.{◌≡◌, ℕ, zero, suc, ◌+◌, ◌<◌, List, ◌∷◌, length, take, refl, sym, ◌∙◌, ap, arith}
+use Rattle.std.specs.Prelude.{map, slice_index_or}
 use Rattle.std.specs.List.{range_with_len}
 use Rattle.std.specs.Global.{Vec}
 use Rattle.std.proofs.lemmas.List.{ext_get_or, length-map}
-use Rattle.std.proofs.lemmas.List.Elements.{All-from_get_or}
 use Rattle.std.proofs.lemmas.List.FromFn.{length-map-range_with_len, get_or-map-range_with_len}
 use Rattle.replay_model.specs.declared.Entry.{Entry}
 use Rattle.replay_model.specs.declared.Want.{Want}
@@ -13,7 +12,7 @@ use Rattle.replay_model.specs.declared.End.{End}
 use Rattle.replay_model.specs.Steps.{Step}
 use Rattle.replay_model.specs.Histories.{steps_of}
 use Rattle.replay_model.specs.ThreadLogs.{thread_log}
-use Rattle.replay_model.specs.Logs.{ThreadLog, Log, no_thread}
+use Rattle.replay_model.specs.Logs.{ThreadLog, no_thread}
 use Rattle.replay_model.specs.RunLogs.{run_log, run_logs, log_of}
 use Rattle.replay_model.specs.RunLogs as logs
 use Rattle.replay_model.specs.WellFormed.{IsWellFormed}
@@ -25,7 +24,6 @@ use Rattle.machine.specs.Inputs.{InputsValue, inputs_of, AreShort}
 use Rattle.machine.specs.Runs.{state_after, threads_of, tallies_of, world_after, reports_of}
 use Rattle.machine.proofs.Runs.{stays_within, has_only, ends_within, counts_steps}
 use Rattle.machine.proofs.Keeping.{keeps_limits}
-use Rattle.dep_log.specs.RunLogs.{IsRunLog}
 use Rattle.history.specs.Played.{Played, threads_in, thread_steps, world_of}
 use Rattle.history.specs.Histories.{IsHistory}
 use Rattle.history.proofs.Playing.{threads_count}
@@ -85,23 +83,11 @@ played-logged played =
     ap (λ (n : ℕ). map (λ (t : ℕ). log_by (inputs_of played.inputs t) (thread_log (thread_steps played t)) (report_of (state_after played.program played.limits played.inputs t (thread_steps played t)))) (range_with_len 0 n)) (sym (threads_count played)) ∙
     runs-logged played.program played.limits played.inputs (world_of played).threads
 
--- a well-formed log is one that a program can hold
-formed-fits : (log : Log) → IsWellFormed log → IsRunLog log
-formed-fits log formed = record {
-  some_thread = formed.range.some_thread;
-  threads = formed.range.threads;
-  some_word = formed.range.some_word;
-  words = formed.range.words;
-  taken = All-from_get_or (λ (thread : ThreadLog). length thread.taken ≤ 65536) log.threads no_thread (λ t l. (formed.threads t l).taken);
-  entries = All-from_get_or (λ (thread : ThreadLog). length thread.entries ≤ 16384) log.threads no_thread (λ t l. let own = (formed.threads t l).entries in let most = formed.range.entries in omega (arith, own, most));
-}
-
--- the log of a history is such a log
-pub history-fits : (p : ProgramValue) (limits : LimitsValue) (inputs : InputsValue) (digest history : List ℕ) → IsProgram p → AreLimits limits → AreShort inputs → IsHistory p limits inputs history →
-    IsRunLog (log_of (threads_of p limits inputs) (tallies_of p limits inputs) digest limits (world_after p limits inputs history))
-history-fits p limits inputs digest history rules bounds short whole =
-    formed-fits (log_of (threads_of p limits inputs) (tallies_of p limits inputs) digest limits (world_after p limits inputs history))
-    (history_formed (threads_of p limits inputs) (tallies_of p limits inputs) digest limits p.words (length p.threads) history (stays_within p limits inputs) (has_only p limits inputs) (ends_within p limits inputs) (keeps_limits p limits inputs short)
+-- the log of a history is well formed
+pub history-formed : (p : ProgramValue) (limits : LimitsValue) (inputs : InputsValue) (digest history : List ℕ) → IsProgram p → AreLimits limits → AreShort inputs → IsHistory p limits inputs history →
+    IsWellFormed (log_of (threads_of p limits inputs) (tallies_of p limits inputs) digest limits (world_after p limits inputs history))
+history-formed p limits inputs digest history rules bounds short whole =
+    history_formed (threads_of p limits inputs) (tallies_of p limits inputs) digest limits p.words (length p.threads) history (stays_within p limits inputs) (has_only p limits inputs) (ends_within p limits inputs) (keeps_limits p limits inputs short)
     (record {
       some_thread = rules.some_threads;
       threads = rules.most_threads;
@@ -110,7 +96,7 @@ history-fits p limits inputs digest history rules bounds short whole =
       steps = let most = bounds.steps in omega (arith, most);
       instr = let most = bounds.instr in omega (arith, most);
       entries = bounds.entries;
-    }) whole)
+    }) whole
 
 -- there are as many lists of entries, and as many reports, as threads
 pub entries-counted : (played : Played) (all : List (Vec Entry)) → entry_lists all ≡ entries_by played (range_with_len 0 (length played.program.threads)) → length all ≡ length played.program.threads

@@ -3,18 +3,18 @@ use Rattle.std.proofs.Common.{◌≡◌, ℕ, List, length, sym, ap, subst, ◌�
 use Rattle.std.specs.List.{range_with_len}
 use Rattle.replay_model.specs.declared.Entry.{Entry}
 use Rattle.replay_model.specs.Steps.{Tag}
-use Rattle.replay_model.specs.Logs.{ThreadLog, Log}
+use Rattle.replay_model.specs.Logs.{ThreadLog}
 use Rattle.replay_model.specs.RunLogs.{run_logs, last_tags}
 use Rattle.machine.specs.Programs.{ProgramValue, LimitsValue, IsProgram, AreLimits}
 use Rattle.machine.specs.Cores.{Report}
 use Rattle.machine.specs.Inputs.{InputsValue, AreShort}
 use Rattle.machine.specs.Runs.{threads_of, tallies_of, reports_of, values_of}
-use Rattle.dep_log.specs.RunLogs.{IsRunLog}
+use Rattle.replay_model.specs.WellFormed.{IsWellFormed}
 use Rattle.history.specs.Played.{Played, world_of}
 use Rattle.history.specs.Histories.{IsHistory}
-use Rattle.recorder.specs.Records.{RecordedValue, no_digest, recorded_of, record_of}
+use Rattle.recorder.specs.Records.{RecordedValue, no_digest, recorded_of}
 use Rattle.recorder.specs.ThreadLogs.{entries_by, logs_by}
-use Rattle.recorder.proofs.Logs.{played-logged, history-fits}
+use Rattle.recorder.proofs.Logs.{played-logged, history-formed}
 
 -- what comes of a machine: the entries of each thread, the reports, the threads' logs, the last tags and the last values
 pub record Comes (played : Played) (all : List (List Entry)) (reports : List Report) (threads : List ThreadLog) (lasts : List Tag) (finals : List ℕ) : Type 0 where
@@ -47,6 +47,6 @@ module _ (played : Played) (p : ProgramValue) (limits : LimitsValue) (inputs : I
         ap (made played.limits (run_logs (threads_of played.program played.limits played.inputs) (tallies_of played.program played.limits played.inputs) (world_of played).threads) (last_tags (world_of played).memory) (reports_of played.program played.limits played.inputs (world_of played))) c.values ∙
         ap (λ (q : Played). recorded_of q.program q.limits q.inputs q.taken) same
 
-    -- and the log is one that a program can hold
-    pub recorded-fits : IsProgram p → AreLimits limits → AreShort inputs → IsHistory p limits inputs played.taken → IsRunLog (record { digest = no_digest; limits = limits; threads = threads; lasts = lasts })
-    recorded-fits rules kept short whole = subst IsRunLog (sym (ap (λ (r : RecordedValue). r.log) recorded-parts)) (history-fits p limits inputs no_digest played.taken rules kept short whole)
+    -- and the log is well formed
+    pub recorded-formed : IsProgram p → AreLimits limits → AreShort inputs → IsHistory p limits inputs played.taken → IsWellFormed (record { digest = no_digest; limits = limits; threads = threads; lasts = lasts })
+    recorded-formed rules kept short whole = subst IsWellFormed (sym (ap (λ (r : RecordedValue). r.log) recorded-parts)) (history-formed p limits inputs no_digest played.taken rules kept short whole)

@@ -1,5 +1,5 @@
 -- What is recorded of a history.
-use Rattle.std.specs.Prelude.{ℕ, List, length, replicate}
+use Rattle.std.specs.Prelude.{ℕ, List, replicate}
 use Rattle.replay_model.specs.Histories.{World}
 use Rattle.replay_model.specs.Logs.{Log}
 use Rattle.replay_model.specs.RunLogs.{log_of}

@@ -6,7 +6,7 @@ use Rattle.replay_model.specs.RunLogs.{last_tags}
 use Rattle.recorder.specs.Records.{RecordedValue}
 use Rattle.recorder.specs.ThreadLogs.{entry_lists, logs_by}
 use Rattle.recorder.proofs.Logs.{entries-counted, reports-counted}
-use Rattle.recorder.proofs.Records.{recorded-parts, recorded-fits}
+use Rattle.recorder.proofs.Records.{recorded-parts, recorded-formed}
 use Rattle.recorder.proofs.turns.record.Goals as goal
 
 pub thread_logs-requires-clause-listed : goal.thread_logs-requires-clause-listed
@@ -19,7 +19,7 @@ thread_logs-requires-clause-counted c =
 
 pub new-log-requires : goal.new-log-requires
 new-log-requires c =
-    recorded-fits c.args.plain c.args.program.now c.args.limits.now c.args.inputs.now c.requires.program c.requires.limits c.requires.inputs _ c.in_ok-reports.reports.items c.in_ok-threads.threads.items c.in_ok-lasts.lasts.items c.in_ok-finals.finals.items
+    recorded-formed c.args.plain c.args.program.now c.args.limits.now c.args.inputs.now c.requires.program c.requires.limits c.requires.inputs _ c.in_ok-reports.reports.items c.in_ok-threads.threads.items c.in_ok-lasts.lasts.items c.in_ok-finals.finals.items
     (record {
       entries = c.in_ok-all.ensures;
       reported = c.in_ok-reports.ensures;

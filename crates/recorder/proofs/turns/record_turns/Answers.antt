@@ -1,4 +1,4 @@
-use Rattle.std.proofs.Common.{◌≡◌, ℕ, List, ap, sym, subst}
+use Rattle.std.proofs.Common.{◌≡◌, ℕ, List, ap, subst}
 use Rattle.std.specs.Prelude.{IfOk}
 use Rattle.history.specs.Played.{Played}
 use Rattle.recorder.specs.Records.{RecordedValue, recorded_of}
