@@ -1,5 +1,5 @@
 -- How far an output was saved and printed.
-use Rattle.std.specs.Prelude.{◌≡◌, ◌<◌, ◌⊎◌, ℕ, IsTrue, List, ◌++◌, length, Option, IfSome, IsSomeAnd}
+use Rattle.std.specs.Prelude.{◌≡◌, ◌<◌, ◌⊎◌, ℕ, IsTrue, List, ◌++◌, length, IfSome, IsSomeAnd}
 use Rattle.light_base.specs.Causes.{Rose}
 use Rattle.light_base.specs.Files.{SameButAt}
 use Rattle.light_top.specs.Outputs.{Output}

@@ -1,13 +1,13 @@
 -- How a command may end: for each status, what must have come and what stands afterwards.
-use Rattle.std.specs.Prelude.{◌≡◌, ℕ, ◌≤◌, ◌⊎◌, Bool, IsTrue, Option, Some, is_some, Err, IfSome, IsOk, IsOkAnd}
+use Rattle.std.specs.Prelude.{◌≡◌, ◌≤◌, ◌⊎◌, Bool, IsTrue, Some, is_some, Err, IfSome, IsOkAnd}
 use Rattle.light_base.specs.Causes.{Rose}
 use Rattle.light_base.specs.FileMap.{Files}
-use Rattle.light_top.specs.Statuses.{IsRefusal}
+use Rattle.light_top.specs.Statuses.{IsRefusal, IsFailure}
 use Rattle.light_top.specs.Outputs.{Output}
 use Rattle.light_top.specs.Outside.{Outside}
 use Rattle.light_top.specs.Delivery.{Delivered}
 use Rattle.light_top.specs.Given.{given}
-use Rattle.light_top.specs.Tasks.{Means}
+use Rattle.light_top.specs.Tasks.{Means, Fails, CanSucceed}
 use Rattle.light_top.specs.declared.words.Command.{Command}
 use Rattle.light_top.specs.declared.status.Status.{Status}
 use Rattle.light_top.specs.declared.status.Status.TheVariants as status
@@ -25,8 +25,12 @@ pub record EndsLate (command : Command) (old new : Outside) (s : Status) : Type 
   pub meant : IfSome old.files (λ files. IsOkAnd (given command files) (λ task. Means task output))
   pub delivered : Delivered output old new s
 
+-- a task was given, and it cannot be done, by its own values; all is as it was
+abbrev pub EndsUndone : Command → Outside → Outside → Status → Type 0
+EndsUndone command old new s = IsFailure s × IfSome old.files (λ files. IsOkAnd (given command files) (λ task. Fails task s)) × (new ≡ old)
+
 abbrev pub Ends : Command → Outside → Outside → Status → Type 0
-Ends command old new s = EndsEarly command old new s ⊎ EndsLate command old new s
+Ends command old new s = EndsEarly command old new s ⊎ EndsLate command old new s ⊎ EndsUndone command old new s
 
 -- memory was refused, or the store, which isn't sound, counted a fault
 abbrev pub IsExcused : Bool → Status → Type 0
@@ -36,13 +40,13 @@ IsExcused sound s = (s ≡ status.Memory) ⊎ ((s ≡ status.StoreFault) × (IsT
 abbrev pub Answers : Command → Files → Bool → Status → Type 0
 Answers command files sound s = (refusal : Status) → given command files ≡ Err refusal → (s ≡ refusal) ⊎ IsExcused sound s
 
--- the sink counted no fault, nor did the store, unless it is sound, and the files give a task
+-- the sink counted no fault, nor did the store, unless it is sound, and the files give a task that can be done
 pub record CanBeDone (command : Command) (old new : Outside) : Type 0 where
   pub sink : Rose old.sink_faults new.sink_faults → ⊥
   pub files : Files
   pub told : old.files ≡ Some files
   pub store : (Rose old.store_faults new.store_faults → ⊥) ⊎ IsTrue old.sound
-  pub ready : IsOk (given command files)
+  pub ready : IsOkAnd (given command files) CanSucceed
 
 -- what holds however it ends: whether the outside tells of itself does not change, no count fell, and a store stays sound or unsound
 pub record Continues (old new : Outside) : Type 0 where

@@ -18,6 +18,8 @@ code_of status.StoreFault = 3
 code_of (status.TooLong taken) = 4
 code_of (status.ImageRefused fault) = 5
 code_of (status.AsmRefused fault) = 6
+code_of status.NoSchedule = 9
+code_of status.Spent = 10
 code_of status.SinkFault = 14
 code_of (status.InputRefused fault) = 15
 code_of (status.WrongInputs program inputs) = 16
@@ -44,6 +46,8 @@ status_line status.StoreFault = codes "light: store fault" ++ 10 ∷ []
 status_line (status.TooLong taken) = codes "light: too long" ++ 10 ∷ []
 status_line (status.ImageRefused fault) = refusal_line (number_of_kind fault.kind) fault.thread fault.at
 status_line (status.AsmRefused fault) = text_line fault.line (number_of_asm_kind fault.kind)
+status_line status.NoSchedule = codes "light: no schedule" ++ 10 ∷ []
+status_line status.Spent = codes "light: budget spent" ++ 10 ∷ []
 status_line status.SinkFault = codes "light: output fault" ++ 10 ∷ []
 status_line (status.InputRefused fault) = input_line (number_of_input_kind fault.kind)
 status_line (status.WrongInputs program inputs) = codes "light: wrong inputs" ++ 10 ∷ []
@@ -61,6 +65,12 @@ IsRefusal (status.AsmRefused fault) = fault.kind ≢ asm_kind.Memory
 IsRefusal (status.InputRefused fault) = fault.kind ≢ input_kind.Memory
 IsRefusal (status.WrongInputs program inputs) = program ≢ inputs
 IsRefusal s = ⊥
+
+-- the statuses of tasks that cannot be done
+abbrev pub IsFailure : Status → Type 0
+IsFailure status.NoSchedule = Unit {0}
+IsFailure status.Spent = Unit {0}
+IsFailure s = ⊥
 
 -- the status of a command that was done, or refused
 abbrev pub status_of : {T : Type 0} → Result T Status → Status

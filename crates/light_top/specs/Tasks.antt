@@ -10,6 +10,9 @@ use Rattle.assembler.specs.Canonical.{canonical}
 use Rattle.light_top.specs.Outputs.{Output, printed, printed_and_saved, saved}
 use Rattle.light_top.specs.declared.task.Task.{Task}
 use Rattle.light_top.specs.declared.task.Task.TheVariants as task
+use Rattle.light_top.specs.Statuses.{IsFailure}
+use Rattle.light_top.specs.declared.status.Status.{Status}
+use Rattle.light_top.specs.declared.status.Status.TheVariants as status
 
 -- the inputs have a list for each thread of the program that they are for
 abbrev pub IsMatched : Task → Type 0
@@ -29,3 +32,16 @@ Means (task.Record image log limits inputs) output = IsImage image.bytes image.p
 Means (task.Assemble program image) output = (bytes : List ℕ) × IsImage bytes program × (output ≡ saved image bytes)
 -- the canonical text of the program
 Means (task.List image) output = IsImage image.bytes image.program × (output ≡ printed (canonical image.program))
+
+-- how a task that was given cannot be done, and why
+abbrev pub Fails : Task → Status → Type 0
+Fails task s = ⊥
+
+-- memory was refused, or the task cannot be done
+abbrev pub NotDone : Task → Status → Type 0
+NotDone task status.Memory = Unit {0}
+NotDone task s = IsFailure s × Fails task s
+
+-- no cause stands in the way of the task
+abbrev pub CanSucceed : Task → Type 0
+CanSucceed task = (s : Status) → Fails task s → ⊥

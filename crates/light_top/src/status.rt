@@ -21,6 +21,10 @@ pub enum Status {
     ImageRefused(ImageFault),
     /// The text is not in the grammar, and this is its first line at fault.
     AsmRefused(AsmFault),
+    /// No order respects the log.
+    NoSchedule,
+    /// The search for an order has met more dead ends than the budget.
+    Spent,
     /// The sink counted a fault.
     SinkFault,
     /// The bytes are no inputs, and this is the first fault.
@@ -43,6 +47,8 @@ impl Status {
             Status::TooLong { .. } => 4,
             Status::ImageRefused(_) => 5,
             Status::AsmRefused(_) => 6,
+            Status::NoSchedule => 9,
+            Status::Spent => 10,
             Status::SinkFault => 14,
             Status::InputRefused(_) => 15,
             Status::WrongInputs { .. } => 16,
@@ -122,6 +128,8 @@ pub fn status_text(alloc: Global, status: &Status) -> Result<Vec<u8>, Memory>
             let kind = u64::from(fault.kind.code());
             put_text_refusal(&mut text, u64::from(fault.line), kind)?
         }
+        Status::NoSchedule => text.extend_from_slice(b"light: no schedule\n")?,
+        Status::Spent => text.extend_from_slice(b"light: budget spent\n")?,
         Status::SinkFault => text.extend_from_slice(b"light: output fault\n")?,
         Status::InputRefused(fault) => {
             put_input_refusal(&mut text, u64::from(fault.kind.code()))?

@@ -1,12 +1,13 @@
 // Tasks: what is done of values alone, once all that a command names was loaded and read.
-ghost use Rattle.std.specs.Prelude.{◌≡◌, length, IfOk};
+ghost use Rattle.std.specs.Prelude.{◌≡◌, length, IfOk, IfErr};
 ghost use Rattle.sha2.specs.Sha256.{sha256};
 ghost use Rattle.machine.specs.Runs.{rounds_of};
 ghost use Rattle.history.specs.HistoryLogs.{log_of_history};
 ghost use Rattle.log_file.specs.Spelling.{spelling};
 ghost use Rattle.transcript.specs.Transcripts.{transcript_of};
-ghost use Rattle.light_top.specs.Tasks.{IsMatched, Means};
+ghost use Rattle.light_top.specs.Tasks.{IsMatched, Means, NotDone};
 
+use crate::Status;
 use crate::bytes::Bytes;
 use crate::image::Image;
 use crate::output::{Output, Saved};
@@ -80,9 +81,10 @@ fn record(
 }
 
 /// Does a task.
-pub fn perform<'a>(alloc: Global, task: Task<'a>) -> Result<Output<'a>, Memory>
+pub fn perform<'a>(alloc: Global, task: Task<'a>) -> Result<Output<'a>, Status>
     requires { IsMatched task }
-    ensures { IfOk result (Means task.entry) }
+    ensures ok { IfOk result (Means task.entry) }
+    ensures err { IfErr result (NotDone task.entry) }
 {
     match task {
         Task::Play {

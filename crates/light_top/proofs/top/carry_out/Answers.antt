@@ -1,4 +1,4 @@
-use Rattle.std.proofs.Common.{◌≡◌, subst, inr}
+use Rattle.std.proofs.Common.{◌≡◌, subst, inl, inr}
 use Rattle.light_top.specs.Statuses.{status_of}
 use Rattle.light_top.specs.Outside.{Outside, outside}
 use Rattle.light_top.specs.Delivery.{Delivered}
@@ -11,8 +11,8 @@ returns g c =
     let now = outside g.S.Store.files g.S.Store.sound g.S.Store.faults g.K.Sink.taken g.K.Sink.faults c.deliver.new.store c.deliver.new.out in
     let loaded = outside g.S.Store.files g.S.Store.sound g.S.Store.faults g.K.Sink.taken g.K.Sink.faults c.take_up.new.store c.args.out.now in
     let same : loaded ≡ before = cc (c.in_ok-task.ensures.files, c.in_ok-task.ensures.sound, c.in_ok-task.ensures.quiet) in
-    inr (record {
+    inr (inl (record {
       output = c.in_ok-output.output;
-      meant = is_meant (g.S.Store.files c.args.store.now) c.args.command c.in_ok-task.task c.in_ok-output.output c.in_ok-task.ensures.ok c.in_ok-output.ensures;
+      meant = is_meant (g.S.Store.files c.args.store.now) c.args.command c.in_ok-task.task c.in_ok-output.output c.in_ok-task.ensures.ok c.in_ok-output.ensures.ok;
       delivered = subst (λ (o : Outside). Delivered c.in_ok-output.output o now (status_of c.deliver.result)) same c.deliver.ensures;
-    })
+    }))
