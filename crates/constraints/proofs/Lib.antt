@@ -1,1 +1,11 @@
+pub mod Members
+pub mod Listed
+pub mod Ranked
+pub mod Sources
+pub mod Rivals
+pub mod Keeping
+pub mod Solving
+pub mod Respecting
+pub mod Sorting
+pub mod Shapes
 pub mod WorkedExamples

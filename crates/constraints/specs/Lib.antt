@@ -1,3 +1,4 @@
 pub mod Positions
 pub mod Constraints
+pub mod Laws
 pub mod Examples
