@@ -1,2 +1,4 @@
 pub mod Records
 pub mod ThreadLogs
+pub mod Running
+pub mod Gathered

@@ -85,7 +85,7 @@ fn record(
 }
 
 // Who wrote each word last.
-fn last_tags(alloc: Global, cells: &[Cell]) -> Result<Vec<Tag>, Memory>
+pub(crate) fn last_tags(alloc: Global, cells: &[Cell]) -> Result<Vec<Tag>, Memory>
     ensures { IfOk result (λ tags. tags.items ≡ last_tags cells.now) }
 {
     let tags = cells.iter().map(|cell| cell.tag).collect(alloc)?;

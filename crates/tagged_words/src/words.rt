@@ -68,6 +68,15 @@ pub enum Cond {
     Lost(Cell),
 }
 
+impl Seen {
+    /// The cell that stood there.
+    pub fn cell(&self) -> Cell
+        ensures { result ≡ self.now.cell }
+    {
+        self.cell
+    }
+}
+
 impl Hand {
     /// The thread's number, from 0.
     pub fn thread(&self) -> u8
