@@ -1,5 +1,5 @@
 -- What comes of a thread that has ended.
-use Rattle.std.proofs.Common.{◌≡◌, ℕ, ◌<◌, ◌≤◌, true, false, List, [], length, take, refl, sym, ◌∙◌, ap, subst, arith}
+use Rattle.std.proofs.Common.{◌≡◌, ℕ, true, List, [], length, take, refl, sym, ◌∙◌, ap, subst}
 use Rattle.std.specs.Prelude.{Option, Some, None, IsSome, option_and_then}
 use Rattle.replay_model.specs.declared.Entry.{Entry}
 use Rattle.replay_model.specs.declared.Want.{Want}
@@ -12,13 +12,13 @@ use Rattle.replay_model.specs.ThreadLogs.{thread_log, is_full}
 use Rattle.replay_model.specs.Logs.{ThreadLog}
 use Rattle.replay_model.specs.RunLogs as logs
 use Rattle.machine.specs.Programs.{ProgramValue, LimitsValue}
-use Rattle.machine.specs.Inputs.{InputsValue, inputs_of}
+use Rattle.machine.specs.Inputs.{inputs_of}
 use Rattle.machine.specs.Cores.{State, Report, first_state, pending_want, want_or, end_of, end_or_halted, report_of}
 use Rattle.machine.specs.Runs.{state_from}
 use Rattle.machine.proofs.Runs.{settled_stays}
 use Rattle.dep_log.specs.DepLogs.{DepLogState}
 use Rattle.tagged_words.specs.declared.words.Seen.{Seen}
-use Rattle.recorder.specs.Running.{Running, IsRunning, IsAtEnd, IsFinished, HasRun, threads_with, led_to}
+use Rattle.recorder.specs.Running.{Running, IsRunning, IsAtEnd, HasRun, threads_with, led_to}
 use Rattle.recorder.proofs.ThreadFacts.{obeys}
 
 -- what is pending is an end
@@ -42,12 +42,12 @@ reported-end (Ended e) = refl
 record RunsWith (p : ProgramValue) (limits : LimitsValue) (list : List ℕ) (t : ℕ) (steps : List Step) (log : ThreadLog) (report : Report) : Type 0 where
   pub run : IsRun (threads_with p limits list) t steps
   pub logged : log ≡ record {
-      entries = thread_log steps;
-      steps = length steps;
-      instr = (state_from p limits list [] (first_state t) steps).instr;
-      end = logs.end_of (threads_with p limits list t steps);
-      taken = take (state_from p limits list [] (first_state t) steps).taken list;
-    }
+    entries = thread_log steps;
+    steps = length steps;
+    instr = (state_from p limits list [] (first_state t) steps).instr;
+    end = logs.end_of (threads_with p limits list t steps);
+    taken = take (state_from p limits list [] (first_state t) steps).taken list;
+  }
   pub reported : report ≡ report_of (state_from p limits list [] (first_state t) steps)
 
 -- whatever the lists of the others are

@@ -1,25 +1,24 @@
 -- What threads did at the same words, put together.
-use Rattle.std.proofs.Common.{◌≡◌, ℕ, zero, suc, ◌+◌, ◌<◌, List, [], ◌∷◌, map, length, get_or, refl, sym, ◌∙◌, ap, subst, arith, zero-add}
-use Rattle.std.specs.Prelude.{All, Contains, slice_index_or}
+use Rattle.std.proofs.Common.{◌≡◌, ℕ, zero, suc, ◌+◌, ◌<◌, List, [], ◌∷◌, map, length, refl, sym, ◌∙◌, ap, subst, arith, zero-add}
+use Rattle.std.specs.Prelude.{All, Contains}
 use Rattle.std.specs.List.{range_with_len}
-use Rattle.std.proofs.lemmas.List.{length-map}
-use Rattle.std.proofs.lemmas.List.Elements.{All-map, All-contains, All-head, All-tail}
+use Rattle.std.proofs.lemmas.List.Elements.{All-map, All-contains}
 use Rattle.std.proofs.lemmas.List.FromFn.{length-range_with_len, get_or-range_with_len}
 use Rattle.light_base.specs.declared.tag.Cell.{Cell}
 use Rattle.replay_model.specs.Steps.{Step, Tag, initial_cells}
 use Rattle.replay_model.specs.Threads.{Threads, IsRun}
-use Rattle.replay_model.specs.Histories.{World, steps_of}
+use Rattle.replay_model.specs.Histories.{steps_of}
 use Rattle.replay_model.specs.WordSteps.{WordStep, part, Folds}
-use Rattle.replay_model.specs.Logs.{ThreadLog, Log}
+use Rattle.replay_model.specs.Logs.{ThreadLog}
 use Rattle.replay_model.specs.RunLogs.{Tallies, run_log, run_logs, run_logs_from, last_tags}
-use Rattle.replay_laws.specs.BridgeLaws.{IsPlayed, threads_in, parts}
+use Rattle.replay_laws.specs.BridgeLaws.{IsPlayed, threads_in}
 use Rattle.replay_laws.proofs.Bridge.{word_steps_played}
 use Rattle.replay_model.specs.WellFormed.{IsWellFormed}
 use Rattle.history.specs.Histories.{IsHistory}
 use Rattle.machine.specs.Programs.{ProgramValue, LimitsValue, IsProgram, AreLimits}
 use Rattle.machine.specs.Inputs.{InputsValue, AreShort}
 use Rattle.machine.specs.Cores.{Report, report_of}
-use Rattle.machine.specs.Runs.{state_after, threads_of, tallies_of, world_after, reports_of, values_of}
+use Rattle.machine.specs.Runs.{state_after, threads_of, tallies_of, world_after, reports_of}
 use Rattle.tagged_words.specs.Views.{Start, SharedWords, Progress}
 use Rattle.tagged_words.specs.Hands.{IsOf, HasHand, AreAllSteps, new_hand}
 use Rattle.recorder.specs.declared.thread_runs.Finished.{Finished}
@@ -110,11 +109,11 @@ module _ (p : ProgramValue) (limits : LimitsValue) (inputs : InputsValue) (words
         word_steps_played (threads_of p limits inputs) p.words (length p.threads) list cells
         (subst (λ (s : Start). All (λ (e : WordStep). e.thread < s.threads) list) start steps.threads)
         (λ t l.
-            let there = done-there t l in
-            let run = (done-at there.0 there.1).1.run in
-            let P : List Step → Type 0 = λ x. IsRun (threads_of p limits inputs) t x in
-            let Q : ℕ → Type 0 = λ u. IsRun (threads_of p limits inputs) u (part u list) in
-            subst Q there.2 (subst (λ (x : List Step). IsRun (threads_of p limits inputs) (thread_in there.0) x) (sym (part-of there.0 there.1)) run))
+        let there = done-there t l in
+        let run = (done-at there.0 there.1).1.run in
+        let P : List Step → Type 0 = λ x. IsRun (threads_of p limits inputs) t x in
+        let Q : ℕ → Type 0 = λ u. IsRun (threads_of p limits inputs) u (part u list) in
+        subst Q there.2 (subst (λ (x : List Step). IsRun (threads_of p limits inputs) (thread_in there.0) x) (sym (part-of there.0 there.1)) run))
         (subst (λ (s : Start). Folds [] (initial_cells s.initial) list cells) start steps.folds)
 
     -- whose turn each step was is a history
@@ -146,7 +145,7 @@ module _ (p : ProgramValue) (limits : LimitsValue) (inputs : InputsValue) (words
         ap (λ (ts : List ThreadLog). made ts (last_tags cells) (map report_in all) (map (λ (cell : Cell). cell.value) cells)) logs-are ∙
         ap (λ (rs : List Report). made (run_logs (threads_of p limits inputs) (tallies_of p limits inputs) (world_after p limits inputs (threads_in list)).threads) (last_tags cells) rs (map (λ (cell : Cell). cell.value) cells)) reports-are ∙
         ap (λ (m : List Cell). made (run_logs (threads_of p limits inputs) (tallies_of p limits inputs) (world_after p limits inputs (threads_in list)).threads) (last_tags m)
-            (reports_of p limits inputs (world_after p limits inputs (threads_in list))) (map (λ (cell : Cell). cell.value) m)) (sym played-all.memory)
+        (reports_of p limits inputs (world_after p limits inputs (threads_in list))) (map (λ (cell : Cell). cell.value) m)) (sym played-all.memory)
 
     pub formed-all : IsProgram p → AreLimits limits → AreShort inputs → IsWellFormed (record { digest = no_digest; limits = limits; threads = map log_in all; lasts = last_tags cells })
     formed-all rules bounds short =

@@ -1,6 +1,6 @@
 -- A thread that runs, before and after a step.
 use Rattle.std.proofs.Common.{◌≡◌, ℕ, ◌+◌, ◌-◌, ◌<◌, ◌≤◌, Bool, true, false, leb, List, [], ◌∷◌, ◌++◌, length, take, refl, sym, ◌∙◌, ap, subst, arith, inl, inr, ◌⊎◌}
-use Rattle.std.specs.Prelude.{nat_le, slice_get, slice_index_or, Option, Some, None, is_some, IsSome, Contains}
+use Rattle.std.specs.Prelude.{slice_get, slice_index_or, Option, Some, None, is_some, IsSome, Contains}
 use Rattle.std.proofs.lemmas.Bool.{cases_lt, leb-false}
 use Rattle.std.proofs.lemmas.List.{get_or_append_left, length_push, take-append-le}
 use Rattle.std.proofs.lemmas.List.Elements.{Contains-get_or}
@@ -24,7 +24,7 @@ use Rattle.machine.proofs.Runs.{settled_pending, settled_stays}
 use Rattle.machine.proofs.Took.{took_takes}
 use Rattle.tagged_words.specs.declared.words.Seen.{Seen}
 use Rattle.tagged_words.specs.Views.{SharedWords, Progress}
-use Rattle.tagged_words.specs.Hands.{Takes, IsSeenBy, new_hand}
+use Rattle.tagged_words.specs.Hands.{Takes, new_hand}
 use Rattle.tagged_words.proofs.Places.{slice_get_push}
 use Rattle.dep_log.specs.DepLogs.{DepLogState}
 use Rattle.recorder.specs.Running.{Running, IsRunning, IsBegun, HoldsLoad, NotesLoad, IsReadyFor, Advances, puts_out, threads_with, led_to, next_want}
@@ -247,6 +247,6 @@ advances-more r seen core hand wanted found view takes room =
 pub refused : (r seen : Running) (core : State) → r ≡ seen → core ≡ r.core → r.core.thread ≡ r.hand.thread → puts_out (code_of r.program r.core.thread) ≡ true →
     (record r { core = core } ≡ seen) × (puts_out (code_of seen.program seen.hand.thread) ≡ true)
 refused r seen core view same own puts = (
-      ap (λ (s : State). record r { core = s }) same ∙ view,
-      subst (λ (x : Running). puts_out (code_of x.program x.hand.thread) ≡ true) view (subst (λ (t : ℕ). puts_out (code_of r.program t) ≡ true) own puts),
-    )
+  ap (λ (s : State). record r { core = s }) same ∙ view,
+  subst (λ (x : Running). puts_out (code_of x.program x.hand.thread) ≡ true) view (subst (λ (t : ℕ). puts_out (code_of r.program t) ≡ true) own puts),
+)

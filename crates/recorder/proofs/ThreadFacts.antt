@@ -1,15 +1,14 @@
 -- What holds of a thread that has this input list, whatever the lists of the others are.
-use Rattle.std.proofs.Common.{◌≡◌, ℕ, ◌+◌, ◌<◌, ◌≤◌, true, false, List, [], ◌∷◌, ◌++◌, length, refl, sym, ◌∙◌, ap, subst}
+use Rattle.std.proofs.Common.{◌≡◌, ℕ, ◌<◌, ◌≤◌, true, false, List, [], ◌∷◌, ◌++◌, length, sym, ◌∙◌, ap, subst}
 use Rattle.std.specs.Prelude.{slice_index_or, replicate}
 use Rattle.std.proofs.lemmas.List.{length-replicate}
 use Rattle.std.proofs.Math.Seq.{get_or-append_seam}
-use Rattle.replay_model.specs.declared.Want.{Want}
 use Rattle.replay_model.specs.declared.Want.TheVariants.{Cond}
 use Rattle.replay_model.specs.Steps.{Tag, Step, word_of, has_ended, reads}
 use Rattle.replay_model.specs.ThreadLogs.{is_full}
 use Rattle.machine.specs.Programs.{ProgramValue, LimitsValue}
 use Rattle.machine.specs.Inputs.{InputsValue, inputs_of}
-use Rattle.machine.specs.Cores.{State, first_state, settled, took}
+use Rattle.machine.specs.Cores.{first_state, settled, took}
 use Rattle.machine.specs.Runs.{state_from, threads_of}
 use Rattle.machine.specs.Laws.{FollowsLoad}
 use Rattle.machine.proofs.Rests.{IsAsked}

@@ -15,8 +15,8 @@ use Rattle.machine.specs.Inputs.{InputsValue, inputs_of}
 use Rattle.machine.specs.Cores.{State, Report, first_state, settled, pending_want, end_of, report_of, is_out}
 use Rattle.machine.specs.Runs.{state_from, state_after, threads_of, tallies_of}
 use Rattle.tagged_words.specs.declared.words.Seen.{Seen}
-use Rattle.tagged_words.specs.Views.{SharedWords, Progress}
-use Rattle.tagged_words.specs.Hands.{IsOf, IsSeenBy}
+use Rattle.tagged_words.specs.Views.{Progress}
+use Rattle.tagged_words.specs.Hands.{IsSeenBy}
 use Rattle.dep_log.specs.DepLogs.{DepLogState}
 
 -- thread t has run to its end: these are its memory steps, and the log and the report are those of this run

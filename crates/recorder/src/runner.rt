@@ -55,12 +55,7 @@ fn word_of(want: &Want) -> u16
 
 // Takes this step at the words: what a reading one found. A conditional write takes the load before it from `loaded`,
 // where a load leaves what it saw.
-fn take_step(
-    words: &Words,
-    hand: &mut Hand,
-    loaded: &mut Option<Seen>,
-    want: &Want,
-) -> Option<Cell>
+fn take_step(words: &Words, hand: &mut Hand, loaded: &mut Option<Seen>, want: &Want) -> Option<Cell>
     requires own { IsOf words.now hand.old }
     requires room { length hand.old.steps + 1 < 2 ^ 28 }
     requires lives { has_ended want.now ≡ false }

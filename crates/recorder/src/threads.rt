@@ -7,10 +7,10 @@ ghost use Rattle.replay_model.specs.WellFormed.{IsWellFormed};
 ghost use Rattle.recorder.specs.Records.{no_digest, recorded_of};
 ghost use Rattle.recorder.specs.Gathered.{IsReady, IsDone, hand_in, log_in, report_in, thread_in, thread_of_hand};
 
+use crate::Gate;
 use crate::recorded::Recorded;
 use crate::thread_runs::{Broken, Finished, run_thread};
 use crate::turns::last_tags;
-use crate::Gate;
 use dep_log::{RunLog, ThreadLog};
 use light_base::{Cell, Memory};
 use machine::{Inputs, Limits, Program, RunReport};
@@ -75,16 +75,12 @@ fn run_all<R: Threads + Sync, G: Gate>(
             requires { IsSync R.row × IsSync G.row × All (IsReady words.now program.now) hands.items × (length words.now.start.initial ≡ length program.now.words) × (length inputs.now ≡ length program.now.threads) }
             ensures each { IfOk result (λ all. All (IsDone words.entry.now program.entry.now limits.entry.now inputs.entry.now) all.items) }
             ensures threads { IfOk result (λ all. map thread_in all.items ≡ map thread_of_hand hands.items) }
-        {
-            run_all(rt, alloc, words, hands, program, limits, inputs, gate)
-        },
+        { run_all(rt, alloc, words, hands, program, limits, inputs, gate) },
         move || -> Result<Vec<Finished>, Memory>
             requires { IsSync R.row × IsSync G.row × All (IsReady words.now program.now) others.items × (length words.now.start.initial ≡ length program.now.words) × (length inputs.now ≡ length program.now.threads) }
             ensures each { IfOk result (λ all. All (IsDone words.entry.now program.entry.now limits.entry.now inputs.entry.now) all.items) }
             ensures threads { IfOk result (λ all. map thread_in all.items ≡ map thread_of_hand others.items) }
-        {
-            run_all(rt, alloc, words, others, program, limits, inputs, gate)
-        },
+        { run_all(rt, alloc, words, others, program, limits, inputs, gate) },
     );
     let mut all = front?;
     let mut more = back?;

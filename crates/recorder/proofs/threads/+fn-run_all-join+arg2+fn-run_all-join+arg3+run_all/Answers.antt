@@ -1,8 +1,6 @@
 use Rattle.std.proofs.Common.{◌≡◌, ℕ, ◌/◌, List, ◌++◌, map, sym, ◌∙◌, ap}
 use Rattle.std.proofs.lemmas.List.{map-append, take-append-drop}
 use Rattle.std.proofs.lemmas.Result.{IfOk-at_ok}
-use Rattle.tagged_words.specs.Views.{Progress}
-use Rattle.recorder.specs.declared.thread_runs.Finished.{Finished}
 use Rattle.recorder.specs.Gathered.{thread_in, thread_of_hand}
 use Rattle.recorder.proofs.threads.+fn-run_all-join+arg2+fn-run_all-join+arg3+run_all.Goals as goal
 

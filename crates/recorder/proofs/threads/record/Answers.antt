@@ -1,5 +1,5 @@
 use Rattle.std.proofs.Common.{◌≡◌, ℕ, ◌<◌, List, map, length, sym, ◌∙◌, ap, subst}
-use Rattle.std.specs.Prelude.{All, IfOk}
+use Rattle.std.specs.Prelude.{All}
 use Rattle.std.specs.List.{range_with_len}
 use Rattle.std.proofs.lemmas.Result.{IfOk-weaker}
 use Rattle.light_base.specs.declared.tag.Cell.{Cell}
@@ -12,7 +12,7 @@ use Rattle.history.specs.Histories.{IsHistory}
 use Rattle.tagged_words.specs.Views.{Start, Progress}
 use Rattle.tagged_words.specs.Hands.{IsOf, HasHand, AreAllSteps, new_hand}
 use Rattle.recorder.specs.Records.{RecordedValue, no_digest, recorded_of}
-use Rattle.recorder.specs.Gathered.{IsReady, hand_in, log_in, report_in, thread_in}
+use Rattle.recorder.specs.Gathered.{IsReady, hand_in, log_in, report_in}
 use Rattle.recorder.proofs.Gathering.{opened-ready, opened-threads, all-own, all-hands, history-all, recorded-all, formed-all}
 use Rattle.recorder.proofs.threads.record.Goals as goal
 

@@ -1,4 +1,4 @@
-use Rattle.std.proofs.Common.{◌≤◌, ℕ, take, sym, ap, ◌∙◌, subst, arith}
+use Rattle.std.proofs.Common.{ℕ, take, sym, ap, ◌∙◌, subst, arith}
 use Rattle.replay_model.specs.declared.End.{End}
 use Rattle.replay_model.specs.Logs.{ThreadLog}
 use Rattle.machine.specs.Cores.{Report}

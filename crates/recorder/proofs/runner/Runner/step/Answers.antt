@@ -1,5 +1,5 @@
-use Rattle.std.proofs.Common.{◌≡◌, ℕ, ◌+◌, ◌<◌, ◌≤◌, true, false, length, refl, sym, ◌∙◌, ap, subst, arith, inl}
-use Rattle.std.specs.Prelude.{Some, is_some}
+use Rattle.std.proofs.Common.{◌≡◌, ℕ, ◌+◌, true, false, length, sym, ◌∙◌, ap, arith, inl}
+use Rattle.std.specs.Prelude.{is_some}
 use Rattle.replay_model.specs.Steps.{has_ended, reads, word_of}
 use Rattle.replay_model.specs.MoreReads.{with_read}
 use Rattle.machine.specs.Cores.{took}
@@ -67,19 +67,21 @@ invariant_of-self-in-Some g c =
     let next : c.saw.new.self ≡ record c.self.inside.log { entries = with_read (word_of c.in_ok-want.want) c.in-Some.cell.tag (length r.hand.steps + 1) c.self.inside.log.entries } =
     c.saw.ensures.entries ∙ ap (λ (w : ℕ). record c.self.inside.log { entries = with_read w c.in-Some.cell.tag (c.steps-number.result + 1) c.self.inside.log.entries }) c.word_of.ensures ∙
     ap (λ (n : ℕ). record c.self.inside.log { entries = with_read (word_of c.in_ok-want.want) c.in-Some.cell.tag (n + 1) c.self.inside.log.entries }) c.steps-number.ensures in
-    let took_cell : c.found.new.self ≡ took c.go_with.new.self c.take_step.result = c.found.ensures ∙ ap (took c.go_with.new.self) (sym c.in-Some.is) in
-    (c.take_step.ensures.own,
-    stepped-read r c.self.inside.log c.self.inside.loaded c.self.inside.taken.items c.self.invariant.1 c.is_full-full.result c.is_full-full.ensures c.go_with.new.self c.in_ok-want.ensures.ok.0 c.in_ok-want.want c.in_ok-want.ensures.ok.1 lives
-    c.take_step.result c.take_step.new.hand c.take_step.new.loaded c.take_step.ensures.step c.take_step.ensures.found c.take_step.ensures.loads c.found.new.self took_cell c.in-Some.cell c.in-Some.is c.saw.new.self next)
+    let took_cell : c.found.new.self ≡ took c.go_with.new.self c.take_step.result = c.found.ensures ∙ ap (took c.go_with.new.self) (sym c.in-Some.is) in (
+      c.take_step.ensures.own,
+      stepped-read r c.self.inside.log c.self.inside.loaded c.self.inside.taken.items c.self.invariant.1 c.is_full-full.result c.is_full-full.ensures c.go_with.new.self c.in_ok-want.ensures.ok.0 c.in_ok-want.want c.in_ok-want.ensures.ok.1 lives
+          c.take_step.result c.take_step.new.hand c.take_step.new.loaded c.take_step.ensures.step c.take_step.ensures.found c.take_step.ensures.loads c.found.new.self took_cell c.in-Some.cell c.in-Some.is c.saw.new.self next,
+    )
 
 pub invariant_of-self-in-None : goal.invariant_of-self-in-None
 invariant_of-self-in-None g c =
     let r : Running = record { program = c.self.inside.program.now; limits = c.self.inside.limits.now; list = c.self.inside.inputs.now; core = c.self.inside.core; hand = c.self.inside.hand } in
     let lives : has_ended c.in_ok-want.want ≡ false = lives_from c.in_ok-want.want c.in_default.not-Ended in
-    let took_none : c.stored.new.self ≡ took c.go_with.new.self c.take_step.result = c.stored.ensures ∙ ap (took c.go_with.new.self) (sym c.in-None.is) in
-    (c.take_step.ensures.own,
-    stepped-quiet r c.self.inside.log c.self.inside.loaded c.self.inside.taken.items c.self.invariant.1 c.is_full-full.result c.is_full-full.ensures c.go_with.new.self c.in_ok-want.ensures.ok.0 c.in_ok-want.want c.in_ok-want.ensures.ok.1 lives
-    c.take_step.result c.take_step.new.hand c.take_step.new.loaded c.take_step.ensures.step c.take_step.ensures.found c.take_step.ensures.loads c.stored.new.self took_none c.in-None.is)
+    let took_none : c.stored.new.self ≡ took c.go_with.new.self c.take_step.result = c.stored.ensures ∙ ap (took c.go_with.new.self) (sym c.in-None.is) in (
+      c.take_step.ensures.own,
+      stepped-quiet r c.self.inside.log c.self.inside.loaded c.self.inside.taken.items c.self.invariant.1 c.is_full-full.result c.is_full-full.ensures c.go_with.new.self c.in_ok-want.ensures.ok.0 c.in_ok-want.want c.in_ok-want.ensures.ok.1 lives
+          c.take_step.result c.take_step.new.hand c.take_step.new.loaded c.take_step.ensures.step c.take_step.ensures.found c.take_step.ensures.loads c.stored.new.self took_none c.in-None.is,
+    )
 
 pub returns-in-Some : goal.returns-in-Some
 returns-in-Some g c =
