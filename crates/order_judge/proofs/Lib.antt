@@ -1,0 +1,10 @@
+pub mod Filling
+pub mod Fronts
+pub mod Backs
+pub mod Least
+pub mod Chaining
+pub mod Ranges
+pub mod Sorting
+pub mod Overlaps
+pub mod Judged
+pub mod Verdicts

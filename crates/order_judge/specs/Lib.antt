@@ -1,0 +1,4 @@
+pub mod Places
+pub mod LiveRanges
+pub mod Sorted
+pub mod Judging
