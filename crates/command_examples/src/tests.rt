@@ -1,6 +1,6 @@
 // What each command says and leaves, as tables of rows that one helper runs.
 use light_base::{MemSink, MemStore};
-use light_top::{Status, light, status_text};
+use light_top::{OpenGate, Status, light, status_text};
 use std::test::Fail;
 
 mod contents;
@@ -54,7 +54,10 @@ fn words_that_are_no_command(rt: HostRuntime) -> Result<(), Fail> {
     let none: [String; 0] = [];
     let mut store = MemStore::new(alloc, Vec::new(alloc));
     let mut out = MemSink::new(alloc, 5, Vec::new(alloc));
-    assert_eq!(rt; light(alloc, &none, &mut store, &mut out), Status::Usage);
+    assert_eq!(rt;
+        light(&rt, alloc, &none, &mut store, &mut out, &OpenGate),
+        Status::Usage
+    );
     assert!(rt; out.taken().is_empty());
     Ok(())
 }
@@ -76,7 +79,7 @@ fn texts_are_put_up_to_the_fault(rt: HostRuntime) -> Result<(), Fail> {
             let fail = taken as u64 + 1;
             let mut out = MemSink::new(alloc, 1, Vec::from_slice(alloc, &[fail])?);
             assert_eq!(rt;
-                light(alloc, &words, &mut store, &mut out),
+                light(&rt, alloc, &words, &mut store, &mut out, &OpenGate),
                 Status::SinkFault
             );
             assert_eq!(rt; out.taken(), &text[..taken]);
@@ -86,7 +89,10 @@ fn texts_are_put_up_to_the_fault(rt: HostRuntime) -> Result<(), Fail> {
         store.put_file("i", &image)?;
         let after_all = text.len() as u64 + 1;
         let mut out = MemSink::new(alloc, 1, Vec::from_slice(alloc, &[after_all])?);
-        assert_eq!(rt; light(alloc, &words, &mut store, &mut out), Status::Ok);
+        assert_eq!(rt;
+            light(&rt, alloc, &words, &mut store, &mut out, &OpenGate),
+            Status::Ok
+        );
         assert_eq!(rt; out.taken(), text.as_slice());
     }
     Ok(())
@@ -101,5 +107,23 @@ fn numbers_and_lines_of_statuses(rt: HostRuntime) -> Result<(), Fail> {
         let line = contents::bytes_of(alloc, Content::Text(line))?;
         assert_eq!(rt; text.as_slice(), line.as_slice());
     }
+    Ok(())
+}
+
+// Two threads that wait for each other end only where both run: one after the other, the first would take all its steps.
+#[test]
+fn threads_are_recorded_side_by_side(rt: HostRuntime) -> Result<(), Fail> {
+    let alloc = rt.alloc();
+    let words = words_of(alloc, "record i l 268435455 1073741824 16384")?;
+    let mut store = MemStore::new(alloc, Vec::new(alloc));
+    store.put_file("i", &contents::bytes_of(alloc, contents::TWO_FLAGS)?)?;
+    let mut out = MemSink::new(alloc, 1000, Vec::new(alloc));
+    let status = light(&rt, alloc, &words, &mut store, &mut out, &OpenGate);
+    assert_eq!(rt; status, Status::Ok);
+    assert!(rt; store.file("l").is_some());
+    let text = String::from_utf8(Vec::from_slice(alloc, out.taken())?)?;
+    assert!(rt; text.as_str().starts_with("thread 0 halted steps "));
+    assert!(rt; text.as_str().contains("\nthread 1 halted steps "));
+    assert!(rt; text.as_str().ends_with("\nword 0 1\nword 1 1\n"));
     Ok(())
 }

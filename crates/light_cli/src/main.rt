@@ -8,7 +8,7 @@ mod words;
 
 use ending::{exit_code, tell};
 use file_store::FileStore;
-use light_top::light;
+use light_top::{OpenGate, light};
 use std::env;
 use std::process::ExitCode;
 use std_sink::StdSink;
@@ -20,7 +20,7 @@ fn main(rt: HostRuntime) -> ExitCode {
         Ok(words) => {
             let mut store = FileStore::new(&rt);
             let mut out = StdSink::new(rt.stdout());
-            light(alloc, &words, &mut store, &mut out)
+            light(&rt, alloc, &words, &mut store, &mut out, &OpenGate)
         }
         Err(status) => status,
     };

@@ -4,7 +4,7 @@ use crate::ending::{exit_code, tell};
 use crate::file_store::{FileStore, read_all};
 use crate::std_sink::StdSink;
 use light_base::{Sink, SinkFault, Store, StoreFault};
-use light_top::{Status, light};
+use light_top::{OpenGate, Status, light};
 use std::alloc::{AllocError, Global};
 use std::fs;
 use std::io::{self, ErrorKind, Read, Write};
@@ -59,12 +59,15 @@ fn an_image_of_a_file_is_played(rt: HostRuntime) -> Result<(), Fail> {
     assert!(rt; store.save("played.img", &SMALLEST).is_ok());
     let words = words_of(alloc, "run played.img 10 10 10")?;
     let mut out = StdSink::new(fs::create(&rt, "played.txt")?);
-    assert_eq!(rt; light(alloc, &words, &mut store, &mut out), Status::Ok);
+    assert_eq!(rt;
+        light(&rt, alloc, &words, &mut store, &mut out, &OpenGate),
+        Status::Ok
+    );
     let text = fs::read_to_string(&rt, "played.txt")?;
     assert_eq!(rt; text.as_str(), "thread 0 halted steps 0 instr 0\n");
     let mut full = StdSink::new(fs::create(&rt, "/dev/full")?);
     assert_eq!(rt;
-        light(alloc, &words, &mut store, &mut full),
+        light(&rt, alloc, &words, &mut store, &mut full, &OpenGate),
         Status::SinkFault
     );
     Ok(())

@@ -11,5 +11,6 @@ mod task;
 mod top;
 mod words;
 
+pub use recorder::{Gate, OpenGate};
 pub use status::{Status, status_text};
 pub use top::light;

@@ -1,11 +1,12 @@
 // Tasks: what is done of values alone, once all that a command names was loaded and read.
-ghost use Rattle.std.specs.Prelude.{◌≡◌, length, IfOk, IfErr};
+ghost use Rattle.std.specs.Prelude.{◌≡◌, ℕ, List, length, IfOk, IfErr};
 ghost use Rattle.sha2.specs.Sha256.{sha256};
 ghost use Rattle.machine.specs.Runs.{rounds_of};
-ghost use Rattle.history.specs.HistoryLogs.{log_of_history};
+ghost use Rattle.history.specs.Histories.{IsHistory};
 ghost use Rattle.log_file.specs.Spelling.{spelling};
-ghost use Rattle.transcript.specs.Transcripts.{transcript_of};
-ghost use Rattle.light_top.specs.Tasks.{IsMatched, Means, NotDone};
+ghost use Rattle.transcript.specs.Transcripts.{transcript, transcript_of};
+ghost use Rattle.light_top.specs.Outputs.{printed_and_saved};
+ghost use Rattle.light_top.specs.Tasks.{IsMatched, IsRecorded, Means, NotDone};
 
 use crate::Status;
 use crate::bytes::Bytes;
@@ -16,8 +17,9 @@ use history::Plain;
 use light_base::Memory;
 use log_file::{digest_of, write_log};
 use machine::{Inputs, Limits, Program, write_image};
-use recorder::record_turns;
+use recorder::{Gate, Recorded, record};
 use std::alloc::Global;
+use std::thread::Threads;
 use transcript::text_of;
 
 /// What a command is to do.
@@ -29,7 +31,7 @@ pub enum Task<'a> {
         limits: Limits,
         inputs: Inputs,
     },
-    /// To play it so, and to save the log.
+    /// To run it on threads, and to save the log.
     Record {
         image: Image,
         log: Name<'a>,
@@ -60,28 +62,50 @@ fn play(alloc: Global, program: &Program, limits: Limits, inputs: &Inputs) -> Re
     Ok(Bytes::of(text))
 }
 
-// The transcript of a program whose threads take turns in rounds, and the log of this history, with the image's digest.
-fn record(
+// What is recorded of a history, as an output: its transcript, and its log with the image's digest.
+fn recording<'a>(
     alloc: Global,
-    program: &Program,
-    limits: &Limits,
-    inputs: &Inputs,
+    recorded: Recorded,
     image: &[u8],
-) -> Result<(Bytes, Bytes), Memory>
-    requires { length inputs.now ≡ length program.now.threads }
-    ensures text { IfOk result (λ made. made.0 ≡ transcript_of program.now limits.now inputs.now (rounds_of program.now limits.now inputs.now)) }
-    ensures log { IfOk result (λ made. made.1 ≡ spelling (log_of_history program.now limits.now inputs.now (sha256 image.now) (rounds_of program.now limits.now inputs.now))) }
+    name: Name<'a>,
+) -> Result<Output<'a>, Memory>
+    ensures { IfOk result (λ output. output ≡ printed_and_saved (transcript recorded.reports recorded.finals) name.entry
+        (spelling (record recorded.log { digest = sha256 image.now }))) }
 {
-    let recorded = record_turns(alloc, program, limits, inputs, &[])?;
     let (mut log, reports, finals) = recorded.into_parts();
     log.set_digest(digest_of(image));
-    let saved = write_log(alloc, &log)?;
-    let text = text_of(alloc, &reports, &finals)?;
-    Ok((Bytes::of(text), Bytes::of(saved)))
+    let bytes = Bytes::of(write_log(alloc, &log)?);
+    let text = Bytes::of(text_of(alloc, &reports, &finals)?);
+    Ok(Output {
+        text,
+        saved: Some(Saved { name, bytes }),
+    })
+}
+
+// Records a program on threads: the transcript and the log of one whole history.
+fn record_image<'a, R: Threads + Sync, G: Gate>(
+    rt: &R,
+    alloc: Global,
+    gate: &G,
+    image: &Image,
+    limits: &Limits,
+    inputs: &Inputs,
+    log: Name<'a>,
+) -> Result<Output<'a>, Memory>
+    requires { length inputs.now ≡ length image.now.program.threads }
+    ensures { IfOk result (λ output. (history : List ℕ) × IsHistory image.now.program limits.now inputs.now history × IsRecorded image.now limits.now inputs.now log.entry history output) }
+{
+    let recorded = record(rt, alloc, image.program(), limits, inputs, gate)?;
+    recording(alloc, recorded, image.bytes(), log)
 }
 
 /// Does a task.
-pub fn perform<'a>(alloc: Global, task: Task<'a>) -> Result<Output<'a>, Status>
+pub fn perform<'a, R: Threads + Sync, G: Gate>(
+    rt: &R,
+    alloc: Global,
+    gate: &G,
+    task: Task<'a>,
+) -> Result<Output<'a>, Status>
     requires { IsMatched task }
     ensures ok { IfOk result (Means task.entry) }
     ensures err { IfErr result (NotDone task.entry) }
@@ -101,11 +125,8 @@ pub fn perform<'a>(alloc: Global, task: Task<'a>) -> Result<Output<'a>, Status>
             limits,
             inputs,
         } => {
-            let (text, bytes) = record(alloc, image.program(), &limits, &inputs, image.bytes())?;
-            Ok(Output {
-                text,
-                saved: Some(Saved { name: log, bytes }),
-            })
+            let output = record_image(rt, alloc, gate, &image, &limits, &inputs, log)?;
+            Ok(output)
         }
         Task::Assemble { program, image } => {
             let bytes = Bytes::of(write_image(alloc, &program)?);

@@ -12,29 +12,36 @@ use crate::loading::take_up;
 use crate::task::perform;
 use crate::words::{Command, read_command};
 use light_base::{Sink, Store};
+use recorder::Gate;
 use std::alloc::Global;
+use std::thread::Threads;
 
 // Takes a command's task up, does it, and delivers what it gives.
-fn carry_out<S: Store, K: Sink>(
+fn carry_out<R: Threads + Sync, S: Store, K: Sink, G: Gate>(
+    rt: &R,
     alloc: Global,
     store: &mut S,
     out: &mut K,
+    gate: &G,
     command: Command<'_>,
 ) -> Result<(), Status>
     ensures { Ends command.entry (outside S.files S.sound S.faults K.taken K.faults store.old out.old)
         (outside S.files S.sound S.faults K.taken K.faults store.new out.new) (status_of result) }
 {
     let task = take_up(alloc, store, command)?;
-    let output = perform(alloc, task)?;
+    let output = perform(rt, alloc, gate, task)?;
     deliver(store, out, &output)
 }
 
-/// Does what the words say.
-pub fn light<S: Store, K: Sink>(
+/// Does what the words say. Where it runs threads, each of them passes the gate before each of its memory steps.
+#[tactic(auto, using(crate::proofs::Ending::not_undone))]
+pub fn light<R: Threads + Sync, S: Store, K: Sink, G: Gate>(
+    rt: &R,
     alloc: Global,
     words: &[String],
     store: &mut S,
     out: &mut K,
+    gate: &G,
 ) -> Status
     // Words that are no command do nothing.
     ensures usage { (result ≡ Status.Usage) ↔ (command_of (texts words.now) ≡ None) }
@@ -56,7 +63,7 @@ pub fn light<S: Store, K: Sink>(
     ensures sink_fault { result ≡ Status.SinkFault → Rose (K.faults out.old) (K.faults out.new) }
 {
     match read_command(words) {
-        Some(command) => match carry_out(alloc, store, out, command) {
+        Some(command) => match carry_out(rt, alloc, store, out, gate, command) {
             Ok(()) => Status::Ok,
             Err(status) => status,
         },

@@ -1,10 +1,11 @@
 // A row of a table, and the helper that runs it.
 use super::contents::{Content, bytes_of};
 use light_base::{MemSink, MemStore};
-use light_top::{Status, light};
+use light_top::{OpenGate, Status, light};
 use std::alloc::{AllocError, Global};
 use std::process::Abort;
 use std::test::Fail;
+use std::thread::Threads;
 
 // A command, the files that it finds, the calls of the store and the puts that fail, and how it ends: its status, what
 // it printed, and the files that changed. All other files stay.
@@ -52,14 +53,14 @@ fn holds(
 }
 
 // Runs a row's command, and looks at what it left. A put takes at most five bytes.
-pub fn check(rt: &impl Abort, alloc: Global, row: &Row) -> Result<(), Fail> {
+pub fn check<R: Abort + Threads + Sync>(rt: &R, alloc: Global, row: &Row) -> Result<(), Fail> {
     let mut store = MemStore::new(alloc, Vec::from_slice(alloc, row.calls)?);
     let mut out = MemSink::new(alloc, 5, Vec::from_slice(alloc, row.puts)?);
     for (name, content) in row.files {
         store.put_file(name, &bytes_of(alloc, *content)?)?;
     }
     let words = words_of(alloc, row.words)?;
-    let status = light(alloc, &words, &mut store, &mut out);
+    let status = light(rt, alloc, &words, &mut store, &mut out, &OpenGate);
     assert_eq!(rt; status, row.status, "{}", row.words);
     let text = bytes_of(alloc, row.text)?;
     assert!(rt; out.taken() == text.as_slice(), "{}", row.words);
