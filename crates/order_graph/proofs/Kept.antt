@@ -1,19 +1,20 @@
 -- What a graph keeps, as it is seen.
 use Rattle.std.proofs.Common.{◌≡◌, ℕ, ◌+◌, ◌*◌, ◌<◌, List, [], ◌∷◌, ◌++◌, length, get_or, leb, sym, ◌∙◌, ap, subst, arith, inl, inr}
-use Rattle.std.specs.Prelude.{sum, ◌↔◌, IsTrue}
+use Rattle.std.specs.Prelude.{sum, ◌↔◌, IsTrue, All, Contains}
 use Rattle.plain_search.specs.declared.Edge.{Edge}
 use Rattle.plain_search.specs.Edges.{IsOrLeadsTo}
-use Rattle.order_graph.specs.Shapes.{shape, lanes_of, IsStep, IsWalk, Leads}
+use Rattle.order_graph.specs.Shapes.{shape, arrow, lanes_of, IsStep, IsWalk, Leads}
 use Rattle.order_graph.specs.Clocks.{HasRoom}
 use Rattle.order_graph.specs.Orders.{IsOrder}
 use Rattle.order_graph.specs.Fronts.{HasLanes, IsClocked}
 use Rattle.order_graph.specs.Graphs.{GraphState, graph_state, nodes_of, edges_of, chains_from, IsGraph, IsKept}
 use Rattle.std.proofs.lemmas.List.{get_or_read}
+use Rattle.std.proofs.lemmas.List.Elements.{All-weaker, All-contains_itself}
 use Rattle.order_graph.proofs.Lanes.{length-lanes_from}
 use Rattle.order_graph.proofs.Sweeping.{clock_fits}
 use Rattle.order_graph.proofs.Orders.{leads-test, before-of, before-clock}
 use Rattle.order_graph.proofs.Walks.{chain-before}
-use Rattle.order_graph.proofs.Chains.{before-leads, leads-before, is_or-leads, leads-is_or}
+use Rattle.order_graph.proofs.Chains.{contained-step, before-leads, leads-before, is_or-leads, leads-is_or}
 
 pub nodes-kept : (state : GraphState) (counts lanes : List ℕ) (added : List Edge) (spare : ℕ) (clocks heads older : List ℕ) → graph_state counts added spare ≡ state → IsKept counts lanes added clocks heads older →
     nodes_of state ≡ length lanes
@@ -108,3 +109,22 @@ order-at state counts lanes lanes' added spare clocks clocks' heads older order 
     (subst (λ (z : List ℕ). IsClocked (length counts) z clocks' (edges_of state)) (sym l)
     (subst (λ (z : List ℕ). IsClocked (length counts) lanes z (edges_of state)) (sym s) (clocked-kept state counts lanes added spare clocks heads older e k))) in
     subst (λ (n : ℕ). IsOrder (edges_of state) n order) (ap length l ∙ sym (nodes-kept state counts lanes added spare clocks heads older e k)) (all (edges_of state) clocked)
+
+step-ends : (threads : ℕ) (lanes : List ℕ) (added : List Edge) (size u v : ℕ) → HasRoom threads lanes added size → IsStep (shape lanes added) u v → (u < length lanes) × (v < length lanes)
+step-ends threads lanes added size u v h (inl c) = h.ends u v c
+step-ends threads lanes added size u v h (inr s) = let a = s.next in let b = s.node in (omega (arith, a, b), b)
+
+-- edges are between nodes
+pub ends-kept : (state : GraphState) (counts lanes : List ℕ) (added : List Edge) (spare : ℕ) (clocks heads older : List ℕ) → graph_state counts added spare ≡ state → IsKept counts lanes added clocks heads older →
+    All (λ (edge : Edge). (edge.from < nodes_of state) × (edge.to < nodes_of state)) (edges_of state)
+ends-kept state counts lanes added spare clocks heads older e k =
+    All-weaker (Contains (edges_of state)) (λ (edge : Edge). (edge.from < nodes_of state) × (edge.to < nodes_of state)) (λ edge c. at edge.from edge.to c) (edges_of state) (All-contains_itself (edges_of state))
+  where
+    n : nodes_of state ≡ length (lanes_of counts)
+    n = nodes-kept state counts lanes added spare clocks heads older e k ∙ ap length k.laid
+
+    at : (u v : ℕ) → Contains (edges_of state) (arrow u v) → (u < nodes_of state) × (v < nodes_of state)
+    at u v c =
+        let s = contained-step counts added u v (subst (λ (g : GraphState). Contains (edges_of g) (arrow u v)) (sym e) c) in
+        let (a, b) = step-ends (length counts) (lanes_of counts) added (length clocks) u v (graph-laid counts lanes added clocks heads older k).room s in
+        let m = n in (omega (arith, a, m), omega (arith, b, m))

@@ -1,5 +1,5 @@
 // The graph: the nodes' threads, the edges that were added, and the clocks.
-ghost use Rattle.std.specs.Prelude.{◌≡◌, ℕ, ◌+◌, ◌-◌, ◌^◌, ◌<◌, ◌≤◌, ◌↔◌, IsTrue, IfOk, OnOk, OnErr, true, List, [], length, sum, vec_capacity};
+ghost use Rattle.std.specs.Prelude.{◌≡◌, ℕ, ◌+◌, ◌-◌, ◌^◌, ◌<◌, ◌≤◌, ◌↔◌, IsTrue, IfOk, OnOk, OnErr, true, List, [], length, sum, All, vec_capacity};
 ghost use Rattle.plain_search.specs.Edges.{LeadsTo, IsOrLeadsTo, is_acyclic};
 ghost use Rattle.order_graph.specs.Shapes.{shape, lanes_of};
 ghost use Rattle.order_graph.specs.Orders.{IsOrder};
@@ -119,6 +119,13 @@ impl Graph {
     /// Does nothing: a law about every graph, that its edges close no cycle.
     pub fn acyclic_law(&self)
         ensures { is_acyclic (edges_of self.now) ≡ true }
+    {
+        let _threads = self.counts.len();
+    }
+
+    /// Does nothing: a law about every graph, that its edges are between its nodes.
+    pub fn ends_law(&self)
+        ensures { All (λ e. (e.from < nodes_of self.now) × (e.to < nodes_of self.now)) (edges_of self.now) }
     {
         let _threads = self.counts.len();
     }

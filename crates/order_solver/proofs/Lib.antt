@@ -1,0 +1,11 @@
+pub mod Testing
+pub mod Adding
+pub mod Nodes
+pub mod Windows
+pub mod Passing
+pub mod Beginning
+pub mod Going
+pub mod Counting
+pub mod Prefixes
+pub mod OfLogs
+pub mod Lines

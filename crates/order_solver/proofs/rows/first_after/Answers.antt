@@ -1,0 +1,16 @@
+use Rattle.std.proofs.Common.{◌+◌, ◌-◌, ◌/◌, refl, arith}
+use Rattle.order_graph.specs.Graphs.{edges_of}
+use Rattle.order_solver.proofs.Windows.{before-more}
+use Rattle.order_solver.proofs.rows.first_after.Goals as goal
+
+pub loop-low-preserved-then-precedes : goal.loop-low-preserved-then-precedes
+loop-low-preserved-then-precedes g c =
+    let a = c.loop-low.invariant.low in
+    let b = c.loop-low.invariant.high in
+    record {
+      low = omega (arith, a);
+      order = omega arith;
+      high = b;
+      before = before-more (g.R.Rivals.rivalry c.args.rivals.now) (edges_of c.args.graph.now) c.args.word c.args.source c.args.from c.args.end (c.loop-low.low + (c.loop-low.high - c.loop-low.low) / 2)
+          c.requires.rivals c.requires.word c.requires.source c.requires.run (omega (arith, b)) (c.if-precedes.ensures.0 refl);
+    }

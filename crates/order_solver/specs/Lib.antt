@@ -1,0 +1,7 @@
+pub mod Rivals
+pub mod Cursors
+pub mod Sides
+pub mod Begun
+pub mod Frames
+pub mod Findings
+pub mod Logs

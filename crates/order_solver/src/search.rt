@@ -1,0 +1,128 @@
+// The search: pair after pair, the lesser side first. It has no recursion and no list of pairs.
+ghost use Rattle.std.specs.Prelude.{◌≡◌, ℕ, ◌+◌, ◌<◌, ◌≤◌, List, [], length, reverse};
+ghost use Rattle.order_graph.specs.Graphs.{edges_of, nodes_of};
+ghost use Rattle.order_solver.specs.Rivals.{AreRivals, source_at, pair_in};
+ghost use Rattle.order_solver.specs.Cursors.{IsAt};
+ghost use Rattle.order_solver.specs.Sides.{Takes};
+ghost use Rattle.order_solver.specs.Begun.{IsBegun};
+ghost use Rattle.order_solver.specs.Frames.{Stacked, TookPair, WentBack, Explored};
+
+use crate::cursor::{Cursor, first_of, next_to};
+use crate::pairs::next_pair;
+use crate::rivals::Rivals;
+use crate::sides::take_side;
+use light_base::Memory;
+use order_graph::{Graph, Mark};
+
+// A pair whose lesser side was taken, and the edges that stood before.
+#[derive(Clone, Copy)]
+pub struct Frame {
+    pub mark: Mark,
+    pub at: Cursor,
+}
+
+/// How a search ended.
+#[derive(Clone, Copy, Debug, PartialEq, Eq)]
+pub enum Ending {
+    /// All pairs are passed.
+    Found,
+    /// There is no choice of a side of each pair.
+    None,
+    /// The budget is spent.
+    Spent,
+}
+
+// Takes the lesser side of a pair where it is open.
+fn take_lesser<R: Rivals>(rivals: &R, graph: &mut Graph, at: Cursor) -> Result<bool, Memory>
+    requires rivals { AreRivals (R.rivalry rivals.now) }
+    requires counts { graph.old.counts ≡ (R.rivalry rivals.now).counts }
+    requires at { IsAt (R.rivalry rivals.now) at }
+    ensures { Takes (pair_in (R.rivalry rivals.now) at.word (source_at (R.rivalry rivals.now) at.word at.lesser) (source_at (R.rivalry rivals.now) at.word at.greater)).lesser graph.old result graph.new }
+{
+    let source = rivals.sources(at.word)[at.greater as usize];
+    take_side(graph, rivals.lasts(at.word, at.lesser), source)
+}
+
+// Takes the greater side of a pair where it is open.
+fn take_greater<R: Rivals>(rivals: &R, graph: &mut Graph, at: Cursor) -> Result<bool, Memory>
+    requires rivals { AreRivals (R.rivalry rivals.now) }
+    requires counts { graph.old.counts ≡ (R.rivalry rivals.now).counts }
+    requires at { IsAt (R.rivalry rivals.now) at }
+    ensures { Takes (pair_in (R.rivalry rivals.now) at.word (source_at (R.rivalry rivals.now) at.word at.lesser) (source_at (R.rivalry rivals.now) at.word at.greater)).greater graph.old result graph.new }
+{
+    let source = rivals.sources(at.word)[at.lesser as usize];
+    take_side(graph, rivals.lasts(at.word, at.greater), source)
+}
+
+// Takes the lesser side of a pair, and leaves the greater one for later; where the lesser one is shut, it takes that. False
+// where both are shut.
+fn take_pair<R: Rivals>(
+    rivals: &R,
+    graph: &mut Graph,
+    frames: &mut Vec<Frame>,
+    at: Cursor,
+) -> Result<bool, Memory>
+    requires rivals { AreRivals (R.rivalry rivals.now) }
+    requires counts { graph.old.counts ≡ (R.rivalry rivals.now).counts }
+    requires stacked { Stacked (R.rivalry rivals.now) graph.old.added (reverse frames.old.items) }
+    requires at { IsAt (R.rivalry rivals.now) at }
+    ensures { TookPair (R.rivalry rivals.now) at graph.old (reverse frames.old.items) graph.new (reverse frames.new.items) result }
+{
+    let mark = graph.mark();
+    if take_lesser(rivals, graph, at)? {
+        frames.push(Frame { mark, at })?;
+        return Ok(true);
+    }
+    take_greater(rivals, graph, at)
+}
+
+// Goes back to the nearest pair whose greater side is open, and takes it. The place after that pair.
+fn go_back<R: Rivals>(
+    rivals: &R,
+    graph: &mut Graph,
+    frames: &mut Vec<Frame>,
+) -> Result<Option<Cursor>, Memory>
+    requires rivals { AreRivals (R.rivalry rivals.now) }
+    requires counts { graph.old.counts ≡ (R.rivalry rivals.now).counts }
+    requires stacked { Stacked (R.rivalry rivals.now) graph.old.added (reverse frames.old.items) }
+    ensures { WentBack (R.rivalry rivals.now) graph.old (reverse frames.old.items) graph.new (reverse frames.new.items) result }
+{
+    while let Some(frame) = frames.pop() {
+        graph.undo(frame.mark);
+        if take_greater(rivals, graph, frame.at)? {
+            return Ok(Some(next_to(frame.at)));
+        }
+    }
+    Ok(None)
+}
+
+// Searches all pairs, with at most so many dead ends.
+pub fn explore<R: Rivals>(
+    rivals: &R,
+    graph: &mut Graph,
+    frames: &mut Vec<Frame>,
+    budget: u32,
+) -> Result<Ending, Memory>
+    requires rivals { AreRivals (R.rivalry rivals.now) }
+    requires begun { IsBegun (R.rivalry rivals.now) graph.old }
+    requires empty { frames.old.items ≡ [] }
+    ensures { Explored (R.rivalry rivals.now) budget result graph.new }
+{
+    let mut at = first_of(0);
+    let mut dead: u32 = 0;
+    while let Some(pair) = next_pair(rivals, graph, at) {
+        if take_pair(rivals, graph, frames, pair)? {
+            at = next_to(pair);
+        } else {
+            if dead == budget {
+                return Ok(Ending::Spent);
+            }
+            dead += 1;
+            match go_back(rivals, graph, frames)? {
+                None => return Ok(Ending::None),
+                Some(next) => at = next,
+            }
+        }
+    }
+    Ok(Ending::Found)
+}

@@ -1,0 +1,83 @@
+// The sides of pairs on a graph: edges from the lasts of one source to another source.
+ghost use Rattle.std.specs.Prelude.{◌≡◌, ℕ, ◌<◌, ◌++◌, ◌↔◌, IsTrue, true, All};
+ghost use Rattle.plain_search.specs.Edges.{is_acyclic, Holds, Implies};
+ghost use Rattle.order_graph.specs.Graphs.{edges_of, nodes_of};
+ghost use Rattle.constraints.specs.Constraints.{edges_to};
+ghost use Rattle.order_solver.specs.Sides.{Narrows, Takes};
+
+use light_base::Memory;
+use order_graph::{Added, Graph};
+
+// Whether a side closes no cycle: its end leads to none of its starts.
+pub fn is_open(graph: &Graph, lasts: &[u32], source: u32) -> bool
+    requires source { source < nodes_of graph.now }
+    requires lasts { All (λ l. l < nodes_of graph.now) lasts.now }
+    ensures { result ≡ is_acyclic (edges_to lasts.now source ++ edges_of graph.now) }
+{
+    graph.acyclic_law();
+    for last in lasts {
+        if *last != source && graph.before(source, *last) {
+            return false;
+        }
+    }
+    true
+}
+
+// Whether the graph implies a side.
+pub fn is_implied(graph: &Graph, lasts: &[u32], source: u32) -> bool
+    requires source { source < nodes_of graph.now }
+    requires lasts { All (λ l. l < nodes_of graph.now) lasts.now }
+    ensures { IsTrue result ↔ Implies (edges_of graph.now) (edges_to lasts.now source) }
+{
+    graph.acyclic_law();
+    for last in lasts {
+        if *last != source && !graph.before(*last, source) {
+            return false;
+        }
+    }
+    true
+}
+
+// Adds an edge that has to hold, where the graph does not imply it.
+pub fn add_edge(graph: &mut Graph, from: u32, to: u32) -> Result<Added, Memory>
+    requires from { from < nodes_of graph.old }
+    requires to { to < nodes_of graph.old }
+    ensures { Narrows (λ rank. rank from < rank to) graph.old result graph.new }
+{
+    if graph.before(from, to) {
+        return Ok(Added::In);
+    }
+    graph.add(from, to)
+}
+
+// Adds a side that has to hold, the last of its starts first: earlier ones of a thread are implied then.
+pub fn add_side(graph: &mut Graph, lasts: &[u32], source: u32) -> Result<Added, Memory>
+    requires source { source < nodes_of graph.old }
+    requires lasts { All (λ l. l < nodes_of graph.old) lasts.now }
+    ensures { Narrows (λ rank. Holds rank (edges_to lasts.now source)) graph.old result graph.new }
+{
+    let mut left = lasts.len();
+    while left > 0 {
+        left -= 1;
+        if lasts[left] != source {
+            match add_edge(graph, lasts[left], source)? {
+                Added::In => {}
+                Added::Cycle => return Ok(Added::Cycle),
+            }
+        }
+    }
+    Ok(Added::In)
+}
+
+// Adds a side where it closes no cycle, else changes nothing.
+pub fn take_side(graph: &mut Graph, lasts: &[u32], source: u32) -> Result<bool, Memory>
+    requires source { source < nodes_of graph.old }
+    requires lasts { All (λ l. l < nodes_of graph.old) lasts.now }
+    ensures { Takes (edges_to lasts.now source) graph.old result graph.new }
+{
+    if !is_open(graph, lasts, source) {
+        return Ok(false);
+    }
+    let _added = add_side(graph, lasts, source)?;
+    Ok(true)
+}
