@@ -19,6 +19,7 @@ fn room_points(players: &[u32]) -> u64
 }
 
 // The points of all players.
+#[tactic(auto, using(crate::proofs::Ranges::sum_by_more))]
 fn points(values: &[u32]) -> u64
     requires { length values.now ≡ 24 }
     ensures { result ≡ points_of values.now 4 }

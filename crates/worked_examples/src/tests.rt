@@ -3,6 +3,7 @@ use dep_log::ThreadLog;
 use light_base::{Event, Memory, SinkFault, StoreFault, Tag};
 use machine::{Inputs, Limits, Program, RunReport};
 
+mod arenas;
 mod graphs;
 mod images;
 mod logs;

@@ -46,7 +46,7 @@ const INITIAL_VALUE: Row = Row {
 
 // Two threads each add 1 to a word by a load and a store, and one update is lost.
 const LOST_UPDATE: Row = Row {
-    program: ".words 1/.thread/load r1 r0 0/addi r1 r1 1/store r1 r0 0/out r1/.thread/load r1 r0 0/addi r1 r1 1/store r1 r0 0/out r1",
+    program: arena_samples::LOST_UPDATE,
     limits: MOST,
     order: &[0, 1, 0, 1],
     entries: "0 initial 1 1;/0 initial 1 1;/",
@@ -56,7 +56,7 @@ const LOST_UPDATE: Row = Row {
 
 // A thread writes a value and then a flag; another has looked twice in vain, and then reads both.
 const MESSAGE_PASSING: Row = Row {
-    program: ".words 2/.thread/set r1 42/store r1 r0 0/set r2 1/store r2 r0 1/.thread/wait: load r1 r0 1/jeq r1 r0 wait/load r2 r0 0/out r2",
+    program: arena_samples::MESSAGE_PASSING,
     limits: MOST,
     order: &[1, 1, 0, 0, 1, 1],
     entries: "/1 initial 1 2;1 0:2 3 3;0 0:1 4 4;/",
@@ -219,7 +219,7 @@ const JUMPS: Row = Row {
 
 // Each thread writes its own word and reads the other one: not both read 0.
 const STORE_BUFFERING: Row = Row {
-    program: ".words 2/.thread/set r1 1/store r1 r0 0/load r2 r0 1/out r2/.thread/set r1 1/store r1 r0 1/load r2 r0 0/out r2",
+    program: arena_samples::STORE_BUFFER,
     limits: MOST,
     order: &[],
     entries: "1 1:1 2 2;/0 0:1 2 2;/",
@@ -227,9 +227,19 @@ const STORE_BUFFERING: Row = Row {
     text: "thread 0 halted steps 2 instr 4/out 1/thread 1 halted steps 2 instr 4/out 1/word 0 1/word 1 1/",
 };
 
+// The same, one thread after the other: the first reads 0.
+const STORE_BUFFERING_IN_TURN: Row = Row {
+    program: arena_samples::STORE_BUFFER,
+    limits: MOST,
+    order: &[0, 0, 1, 1],
+    entries: "1 initial 2 2;/0 0:1 2 2;/",
+    lasts: "0:1;1:1;",
+    text: "thread 0 halted steps 2 instr 4/out 0/thread 1 halted steps 2 instr 4/out 1/word 0 1/word 1 1/",
+};
+
 // Each thread raises a flag and waits for the other one.
 const TWO_FLAGS: Row = Row {
-    program: ".words 2/.thread/set r1 1/store r1 r0 0/wait: load r2 r0 1/jeq r2 r0 wait/.thread/set r1 1/store r1 r0 1/wait: load r2 r0 0/jeq r2 r0 wait",
+    program: arena_samples::TWO_FLAGS,
     limits: MOST,
     order: &[],
     entries: "1 1:1 2 2;/0 0:1 2 2;/",
@@ -277,7 +287,7 @@ const TORN_PAIR: Row = Row {
     text: "thread 0 halted steps 2 instr 3/thread 1 halted steps 2 instr 4/out 0/out 1/word 0 1/word 1 1/",
 };
 
-static ROWS: [Row; 26] = [
+static ROWS: [Row; 27] = [
     OWN_WRITE,
     INITIAL_VALUE,
     LOST_UPDATE,
@@ -299,6 +309,7 @@ static ROWS: [Row; 26] = [
     ARITHMETIC,
     JUMPS,
     STORE_BUFFERING,
+    STORE_BUFFERING_IN_TURN,
     TWO_FLAGS,
     BANK_TRANSFER,
     DOUBLE_CHECKED,
