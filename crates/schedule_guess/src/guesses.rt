@@ -7,15 +7,9 @@ use crate::shape::Shape;
 use crate::stop::Stop;
 use crate::writers::Writers;
 use light_base::Memory;
+use order_judge::Read;
 use plain_search::Edge;
 use std::alloc::Global;
-
-#[derive(Clone, Copy, Debug, PartialEq, Eq)]
-pub struct Read {
-    pub word: u32,
-    pub source: u32,
-    pub last: u32,
-}
 
 // The order, or why there is none.
 fn order_of(

@@ -24,4 +24,4 @@ mod stop;
 mod sweep;
 mod writers;
 
-pub use guesses::{Read, guess};
+pub use guesses::guess;

@@ -2,13 +2,13 @@
 ghost use Rattle.std.specs.Prelude.{◌≤◌, length};
 
 use crate::clocks::{CHAINS, Clock, Clocks, NEVER, is_less};
-use crate::guesses::Read;
 use crate::links::Links;
 use crate::queue::Queue;
 use crate::shape::Shape;
 use crate::stop::Stop;
 use crate::sweep::Sweep;
 use crate::writers::{Writer, Writers};
+use order_judge::Read;
 use std::alloc::{AllocError, Global};
 
 /// The clock of a node tells for each chain the least node of it that the node leads to.

@@ -3,9 +3,9 @@ ghost use Rattle.std.specs.Prelude.{◌<◌};
 
 use crate::chains::Chains;
 use crate::clocks::{CHAINS, Clock, NEVER};
-use crate::guesses::Read;
 use crate::rows::Rows;
 use crate::stop::Stop;
+use order_judge::Read;
 use std::alloc::{AllocError, Global};
 
 /// The most words there may be.
