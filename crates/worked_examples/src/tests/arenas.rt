@@ -32,22 +32,22 @@ const MOVE: &str =
 const FIRST_MOVE: &str =
     ".thread/set r2 1/set r1 1000/jeq r1 r0 17/addi r1 r1 4294967295/load r3 r0 0/jne r3 r0 2/cas r3 r0 r2 0/jne r15 r2 2/load r4 r0 2/out r4/jeq r4 r0 16/addi r4 r4 4294967295/store r4 r0 2/load r5 r0 3/addi r5 r5 1/store r5 r0 3/store r0 r0 0/";
 
-fn digit(text: &[u8], at: usize) -> u64 {
+fn digit(text: &[u8], at: usize) -> u8 {
     match text.get(at) {
-        Some(b) if b.is_ascii_digit() => u64::from(*b - b'0'),
+        Some(b) if b.is_ascii_digit() => *b - b'0',
         _ => 0,
     }
 }
 
 // Appends a move, of which this is the number in its thread.
 fn put_move(text: &mut Vec<u8>, number: u64, chosen: &[u8]) -> Result<(), Fail> {
-    let lock = 6 * digit(chosen, 0);
+    let lock = 6 * u64::from(digit(chosen, 0));
     for b in MOVE.as_bytes() {
         match *b {
             b'N' => put_decimal(text, number)?,
             b'L' => put_decimal(text, lock)?,
-            b'F' => put_decimal(text, lock + 1 + digit(chosen, 1))?,
-            b'T' => put_decimal(text, lock + 1 + digit(chosen, 2))?,
+            b'F' => put_decimal(text, lock + 1 + u64::from(digit(chosen, 1)))?,
+            b'T' => put_decimal(text, lock + 1 + u64::from(digit(chosen, 2)))?,
             other => text.push(other)?,
         }
     }
@@ -92,7 +92,8 @@ const SUMMARY: &str = "arena 7 threads 8 words 24 moves 128/points 400/replay sa
 // The last values where the threads take turns in rounds.
 fn values_at_end(alloc: Global, program: &Program) -> Result<Vec<u32>, Fail> {
     let limits = Limits::new(1_000_000, 10_000_000, 16_384).ok_or("limits")?;
-    let inputs = Inputs::none(alloc, 8)?;
+    let count = program.threads_count();
+    let inputs = Inputs::none(alloc, count as u8)?;
     let recorded = record_turns(alloc, program, &limits, &inputs, &[])?;
     Ok(Vec::from_slice(alloc, recorded.finals())?)
 }
