@@ -11,6 +11,11 @@ use crate::writers::{Writer, Writers};
 use order_judge::Read;
 use std::alloc::{AllocError, Global};
 
+// How often nodes are visited before the guess gives up. Logs of histories ask for fewer than eight visits a node.
+const VISITS: u64 = 100_000;
+
+const VISITS_A_NODE: u64 = 64;
+
 /// The clock of a node tells for each chain the least node of it that the node leads to.
 #[derive(Drop)]
 pub struct Reach {
@@ -20,6 +25,7 @@ pub struct Reach {
     links: Links,
     queue: Queue,
     fronts: Clock,
+    // How many visits are left.
     visits: u64,
 }
 
@@ -33,7 +39,7 @@ impl Reach {
             links: Links::new(alloc, nodes as usize)?,
             queue: Queue::new(alloc, nodes as usize)?,
             fronts: *shape.chains.starts(),
-            visits: 100_000 + 100 * u64::from(nodes),
+            visits: VISITS + VISITS_A_NODE * u64::from(nodes),
         };
         reach.settle(Sweep::new(alloc, shape)?, shape)?;
         reach.keep();
