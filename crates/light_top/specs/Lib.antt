@@ -7,3 +7,4 @@ pub mod Tasks
 pub mod Outside
 pub mod Delivery
 pub mod Ends
+pub mod Headline

@@ -5,6 +5,7 @@ ghost use Rattle.light_top.specs.Words.{texts, command_of};
 ghost use Rattle.light_top.specs.Statuses.{status_of};
 ghost use Rattle.light_top.specs.Outside.{outside};
 ghost use Rattle.light_top.specs.Ends.{Ends, Answers, CanBeDone, Continues};
+ghost use Rattle.light_top.specs.Headline.{Records};
 
 use crate::Status;
 use crate::delivery::deliver;
@@ -34,7 +35,7 @@ fn carry_out<R: Threads + Sync, S: Store, K: Sink, G: Gate>(
 }
 
 /// Does what the words say. Where it runs threads, each of them passes the gate before each of its memory steps.
-#[tactic(auto, using(crate::proofs::Ending::not_undone))]
+#[tactic(auto, using(crate::proofs::Ending::not_undone, crate::proofs::Headline::recorded))]
 pub fn light<R: Threads + Sync, S: Store, K: Sink, G: Gate>(
     rt: &R,
     alloc: Global,
@@ -52,6 +53,10 @@ pub fn light<R: Threads + Sync, S: Store, K: Sink, G: Gate>(
         (outside S.files S.sound S.faults K.taken K.faults store.new out.new) result) }
     ensures continues { Continues (outside S.files S.sound S.faults K.taken K.faults store.old out.old)
         (outside S.files S.sound S.faults K.taken K.faults store.new out.new) }
+
+    // Whatever the interleaving, what was recorded is one whole history.
+    ensures records { IfSome (command_of (texts words.now)) (λ command. Records command (outside S.files S.sound S.faults K.taken K.faults store.old out.old)
+        (outside S.files S.sound S.faults K.taken K.faults store.new out.new) result) }
 
     // What stands in the way is answered, and where nothing does, it is done.
     ensures answers { IfSome (command_of (texts words.now)) (λ command. IfSome (S.files store.old) (λ files. Answers command files (S.sound store.old) result)) }
