@@ -1,20 +1,21 @@
-// What a memory step finds in the cells, and what it writes to them.
-ghost use Rattle.std.specs.Prelude.{◌≡◌, ◌<◌, ◌≤◌, length, slice_index_or, false, true};
+//! The words of a memory: what a memory step finds there, and what it writes.
+ghost use Rattle.std.specs.Prelude.{◌≡◌, ◌<◌, ◌≤◌, IfOk, length, slice_index_or, false, true};
 ghost use Rattle.light_base.specs.Tags.{HasTag};
-ghost use Rattle.replay_model.specs.Steps.{same_tag, word_of, has_ended, wrote, found_in, put};
+ghost use Rattle.replay_model.specs.Steps.{same_tag, word_of, has_ended, wrote, found_in, put, initial_cells};
 
-use light_base::{Cell, Event, Tag};
+use light_base::{Cell, Event, Memory, Tag};
 use replay_model::Want;
+use std::alloc::Global;
 
-// Whether two words have the same writer.
-fn same_tag(a: Tag, b: Tag) -> bool
+/// Whether two words have the same writer.
+pub fn same_tag(a: Tag, b: Tag) -> bool
     ensures { result ≡ same_tag a b }
 {
     a.writer() == b.writer()
 }
 
-// The word that is wanted.
-pub(crate) fn word_of(want: &Want) -> u16
+/// The word that is wanted.
+pub fn word_of(want: &Want) -> u16
     ensures { result ≡ word_of want.now }
 {
     match want {
@@ -26,8 +27,8 @@ pub(crate) fn word_of(want: &Want) -> u16
     }
 }
 
-// The cell that a reading step finds.
-pub(crate) fn found_in(cells: &[Cell], want: &Want) -> Option<Cell>
+/// The cell that a reading step finds: the one in its word.
+pub fn found_in(cells: &[Cell], want: &Want) -> Option<Cell>
     requires { has_ended want.now ≡ false → word_of want.now < length cells.now }
     ensures { result ≡ found_in cells.now want.now }
 {
@@ -39,8 +40,8 @@ pub(crate) fn found_in(cells: &[Cell], want: &Want) -> Option<Cell>
     }
 }
 
-// The value that a step writes, if it writes.
-pub(crate) fn written(want: &Want, found: &Option<Cell>) -> Option<u32>
+/// The value that a step writes, which found this; None where it writes nothing.
+pub fn written(want: &Want, found: &Option<Cell>) -> Option<u32>
     ensures { result ≡ wrote want.now found.now }
 {
     match want {
@@ -53,8 +54,8 @@ pub(crate) fn written(want: &Want, found: &Option<Cell>) -> Option<u32>
     }
 }
 
-// Writes to a word, if there is something to write.
-pub(crate) fn put(cells: &mut [Cell], word: u16, event: Event, value: Option<u32>)
+/// Writes a value to a word with the event's tag, if there is a value.
+pub fn put(cells: &mut [Cell], word: u16, event: Event, value: Option<u32>)
     requires word { word < length cells.old }
     requires event { HasTag event }
     ensures { cells.new ≡ put cells.old word event value }
@@ -65,4 +66,18 @@ pub(crate) fn put(cells: &mut [Cell], word: u16, event: Event, value: Option<u32
             tag: event.tag(),
         };
     }
+}
+
+/// The words before any step: each has its initial value, which nobody wrote.
+pub fn opening_cells(alloc: Global, words: &[u32]) -> Result<Vec<Cell>, Memory>
+    ensures { IfOk result (λ cells. cells.items ≡ initial_cells words.now) }
+{
+    let cells = words
+        .iter()
+        .map(|value| Cell {
+            value: *value,
+            tag: Tag::INITIAL,
+        })
+        .collect(alloc)?;
+    Ok(cells)
 }

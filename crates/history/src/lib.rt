@@ -1,7 +1,7 @@
 //! Histories of a program: the plain machine, which plays all threads on one.
 #![tactic(auto)]
 
-mod cells;
+pub mod cells;
 mod laws;
 mod plain;
 mod seat;

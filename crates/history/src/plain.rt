@@ -1,15 +1,16 @@
 // The plain machine: all threads of a program, taken step by step on one memory.
 ghost use Rattle.std.specs.Prelude.{◌≡◌, ℕ, ◌+◌, ◌<◌, ◌≤◌, Bool, true, false, not, IfOk, OnOk, OnErr, [], ◌∷◌, length, map, All};
 ghost use Rattle.std.specs.List.{range_with_len};
-ghost use Rattle.replay_model.specs.Steps.{accesses_from, initial_cells};
+ghost use Rattle.replay_model.specs.Steps.{accesses_from};
 ghost use Rattle.replay_model.specs.Histories.{round_turns};
 ghost use Rattle.machine.specs.Runs.{reports_of, rounds_of, values_of};
 ghost use Rattle.history.specs.Played.{unplayed, world_of, thread_steps, after_turns, steps_in, HasBegun, IsOver};
 ghost use Rattle.history.specs.Playing.{AreFresh, MayReport, seat_report};
 ghost use Rattle.history.specs.Stepping.{IsStep};
 
+use crate::cells::opening_cells;
 use crate::seat::Seat;
-use light_base::{Cell, Memory, Tag};
+use light_base::{Cell, Memory};
 use machine::{Access, End, Inputs, Limits, Program, RunReport, Want};
 use std::alloc::Global;
 use std::marker::Model;
@@ -49,20 +50,6 @@ impl<'p> Model for Plain<'p> {
     ghost view = { λ p. record { program = p.program.now; limits = p.limits; inputs = p.inputs.now; taken = p.taken.items } };
 
     ghost invariant = { λ p. IsPlaying (record { program = p.program.now; limits = p.limits; inputs = p.inputs.now; taken = p.taken.items }) p.cells.items p.seats.items };
-}
-
-// The words before any step.
-fn opening_cells(alloc: Global, words: &[u32]) -> Result<Vec<Cell>, Memory>
-    ensures { IfOk result (λ cells. cells.items ≡ initial_cells words.now) }
-{
-    let cells = words
-        .iter()
-        .map(|value| Cell {
-            value: *value,
-            tag: Tag::INITIAL,
-        })
-        .collect(alloc)?;
-    Ok(cells)
 }
 
 // The threads before any step.

@@ -1,0 +1,11 @@
+pub mod Adding
+pub mod Cursors
+pub mod Seats
+pub mod Running
+pub mod Items
+pub mod Ending
+pub mod Turns
+pub mod TakenNumbers
+pub mod Comparing
+pub mod Finishing
+pub mod Exactness

@@ -1,0 +1,5 @@
+pub mod Replays
+pub mod Differences
+pub mod Verdicts
+pub mod KeptSteps
+pub mod Seats

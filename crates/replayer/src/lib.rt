@@ -1,0 +1,15 @@
+//! Replays of a program by a log: the threads take turns on one memory in the order of the log's events, and of their
+//! writes only those are made that the log names.
+#![tactic(auto)]
+
+mod difference;
+mod kept_steps;
+mod laws;
+mod order;
+mod replay;
+mod seat;
+
+pub use difference::{Difference, Kept};
+pub use laws::replay_law;
+pub use order::replay_order;
+pub use replay::{Replay, Replayed, Turned};

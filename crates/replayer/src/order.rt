@@ -1,0 +1,43 @@
+// A replay by a whole order.
+ghost use Rattle.std.specs.Prelude.{◌≡◌, ℕ, List, IfOk, length};
+ghost use Rattle.replay_model.specs.Orders.{Respects};
+ghost use Rattle.machine.specs.Programs.{LimitsValue};
+ghost use Rattle.machine.specs.Inputs.{InputsValue};
+ghost use Rattle.history.specs.Histories.{IsHistory};
+ghost use Rattle.history.specs.HistoryLogs.{log_of_history};
+ghost use Rattle.replayer.specs.Replays.{replay_by};
+ghost use Rattle.replayer.specs.Verdicts.{IsVerdict, IsExact, IsHistoryAgain};
+
+use crate::laws::replay_law;
+use crate::replay::{Replay, Replayed};
+use dep_log::RunLog;
+use light_base::{Event, Memory};
+use machine::Program;
+use std::alloc::Global;
+
+/// Replays a program by a log of as many threads and words: the threads take the turns of the order, and then run to
+/// their ends. An event of a thread that the program does not have does nothing.
+pub fn replay_order(
+    alloc: Global,
+    program: &Program,
+    log: &RunLog,
+    order: &[Event],
+) -> Result<Replayed, Memory>
+    requires threads { length program.now.threads ≡ length log.now.threads }
+    requires words { length program.now.words ≡ length log.now.lasts }
+    ensures verdict { IfOk result (IsVerdict program.now log.now (replay_by program.now log.now order.now)) }
+    // For an order that respects the log: whether some runs fit the log, and what these report and leave.
+    ensures exact { IfOk result (λ replayed. Respects log.now order.now → IsExact program.now log.now replayed) }
+    // For the log of a history too: what this very history reported and left.
+    ensures history { IfOk result (λ replayed. Respects log.now order.now → (limits : LimitsValue) (inputs : InputsValue) (digest history : List ℕ) → IsHistory program.now limits inputs history → log.now ≡ log_of_history program.now limits inputs digest history → IsHistoryAgain program.now limits inputs history replayed) }
+{
+    replay_law();
+    let mut replay = Replay::new(alloc, program, log)?;
+    let threads = program.threads_count();
+    for event in order {
+        if usize::from(event.thread) < threads {
+            replay.turn(*event)?;
+        }
+    }
+    replay.finish()
+}
