@@ -143,8 +143,8 @@ by-nothing p log order event r is far = record {
   world =
       is.world ∙
       sym (
-        turns-push (threads_by p log) (keeps log) order event (opening p.words (length log.threads)) ∙ turned-is p log event.thread event.step _ (world_by p log order) refl ∙
-        moves_ended (threads_by p log) (keeps log) _ event.thread (world_by p log order) (has_only p log.limits (taken_in log) event.thread (steps_of (world_by p log order).threads event.thread) far)
+      turns-push (threads_by p log) (keeps log) order event (opening p.words (length log.threads)) ∙ turned-is p log event.thread event.step _ (world_by p log order) refl ∙
+      moves_ended (threads_by p log) (keeps log) _ event.thread (world_by p log order) (has_only p log.limits (taken_in log) event.thread (steps_of (world_by p log order).threads event.thread) far)
       );
 }
 

@@ -229,4 +229,3 @@ module _ (r : Replaying) (cells given : List Cell) (seats taken : List Seat) (af
   pub verdict-of : (seen : Replaying) (replayed : Replayed) → r ≡ seen → IsAnswer r.log after done replayed → IsVerdict seen.program seen.log (ended seen) replayed
   verdict-of seen replayed view h =
       subst (λ (x : Replaying). IsVerdict x.program x.log (ended x) replayed) view (verdict-is r.program r.log (ended r) after done end-shown end-settled is.threads replayed h)
-

@@ -182,8 +182,8 @@ run-out p log t world end cells start mid last cells_then wanting then run ran =
         let count = length (steps_of world.threads t) in
         let n : log.limits.steps ≡ (log.limits.steps - count) + count = omega arith in
         sym (
-          ap (λ (m : ℕ). moves (threads_by p log) (keeps log) m t world) n ∙ moves-add (threads_by p log) (keeps log) (log.limits.steps - count) count t world ∙
-          ap (moves (threads_by p log) (keeps log) count t) (sym (turned-is p log t log.limits.steps (log.limits.steps - count) world refl)) ∙ moves_ended (threads_by p log) (keeps log) count t here over
+        ap (λ (m : ℕ). moves (threads_by p log) (keeps log) m t world) n ∙ moves-add (threads_by p log) (keeps log) (log.limits.steps - count) count t world ∙
+        ap (moves (threads_by p log) (keeps log) count t) (sym (turned-is p log t log.limits.steps (log.limits.steps - count) world refl)) ∙ moves_ended (threads_by p log) (keeps log) count t here over
         )
     go (inr l) =
         let none : here ≡ world = turned-is p log t log.limits.steps 0 world (omega arith) ∙ no_moves p log t world in

@@ -100,10 +100,7 @@ pub(crate) fn logged_side(log: &ThreadLog) -> Side<'_>
 fn is_same_entry(a: &Entry, b: &Entry) -> bool
     ensures { IsTrue result ↔ (a.now ≡ b.now) }
 {
-    a.word == b.word
-        && same_tag(a.source, b.source)
-        && a.first == b.first
-        && a.last == b.last
+    a.word == b.word && same_tag(a.source, b.source) && a.first == b.first && a.last == b.last
 }
 
 // Whether two places keep the same.
@@ -126,10 +123,7 @@ fn is_same(a: &Kept, b: &Kept) -> bool
                 taken: other_taken,
             },
         ) => {
-            steps == other_steps
-                && instr == other_instr
-                && end == other_end
-                && taken == other_taken
+            steps == other_steps && instr == other_instr && end == other_end && taken == other_taken
         }
         (Kept::LastTag(x), Kept::LastTag(y)) => same_tag(*x, *y),
         _ => false,

@@ -142,12 +142,7 @@ fn values(alloc: Global, cells: &[Cell]) -> Result<Vec<u32>, Memory>
 }
 
 // What comes of a replay whose threads have run to their ends.
-fn answer(
-    alloc: Global,
-    log: &RunLog,
-    cells: &[Cell],
-    seats: Vec<Seat>,
-) -> Result<Replayed, Memory>
+fn answer(alloc: Global, log: &RunLog, cells: &[Cell], seats: Vec<Seat>) -> Result<Replayed, Memory>
     requires counted { length seats.items ≡ length log.now.threads }
     requires words { length cells.now ≡ length log.now.lasts }
     requires ended { All HasEnded seats.items }
@@ -166,11 +161,7 @@ fn answer(
 impl<'p> Replay<'p> {
     /// The opening state: each word has its initial value, which nobody wrote, and no thread has taken a step. The log is
     /// one of as many threads and words as the program has.
-    pub fn new(
-        alloc: Global,
-        program: &'p Program,
-        log: &'p RunLog,
-    ) -> Result<Replay<'p>, Memory>
+    pub fn new(alloc: Global, program: &'p Program, log: &'p RunLog) -> Result<Replay<'p>, Memory>
         requires threads { length program.now.threads ≡ length log.now.threads }
         requires words { length program.now.words ≡ length log.now.lasts }
         ensures { IfOk result (λ replay. replay ≡ unplayed program.now log.now) }
