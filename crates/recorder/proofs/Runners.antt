@@ -27,7 +27,7 @@ use Rattle.tagged_words.specs.Views.{SharedWords, Progress}
 use Rattle.tagged_words.specs.Hands.{Takes, new_hand}
 use Rattle.tagged_words.proofs.Places.{slice_get_push}
 use Rattle.dep_log.specs.DepLogs.{DepLogState}
-use Rattle.recorder.specs.Running.{Running, IsRunning, IsBegun, HoldsLoad, NotesLoad, IsReadyFor, Advances, puts_out, threads_with, led_to, next_want}
+use Rattle.recorder.specs.Running.{Running, IsRunning, IsBegun, HoldsLoad, NotesLoad, IsReadyFor, Advances, noted, puts_out, threads_with, led_to, next_want}
 use Rattle.recorder.proofs.ThreadFacts.{obeys}
 
 -- a want that is no end
@@ -200,10 +200,20 @@ module _ (r : Running) (log : DepLogState) (loaded : Option Seen) (taken : List 
         abbrev step : Step
         step = record { want = wanted; found = found }
 
-        stepped : (next : DepLogState) → next ≡ record { words = length r.program.words; limit = r.limits.entries; entries = thread_log (r.hand.steps ++ step ∷ []) } → IsRunning (record r { core = last; hand = hand }) next loads taken
+        -- the log has the step too
+        noted-is : (next : DepLogState) → next ≡ noted log (word_of wanted) found (length r.hand.steps + 1) → next ≡ record { words = length r.program.words; limit = r.limits.entries; entries = thread_log (r.hand.steps ++ step ∷ []) }
+        noted-is next h = h ∙ by_found found refl
+          where
+            by_found : (f : Option Cell) → found ≡ f → noted log (word_of wanted) f (length r.hand.steps + 1) ≡ record { words = length r.program.words; limit = r.limits.entries; entries = thread_log (r.hand.steps ++ step ∷ []) }
+            by_found None q = is.logged ∙ ap (λ (x : List Entry). record { words = length r.program.words; limit = r.limits.entries; entries = x }) (sym (thread_log-quiet r.hand.steps step q))
+            by_found (Some cell) q =
+                ap (λ (x : DepLogState). record x { entries = with_read (word_of wanted) cell.tag (length r.hand.steps + 1) x.entries }) is.logged ∙
+                ap (λ (x : List Entry). record { words = length r.program.words; limit = r.limits.entries; entries = x }) (sym (thread_log-push r.hand.steps step cell q))
+
+        -- after the step it runs on
+        pub stepped : (next : DepLogState) → next ≡ noted log (word_of wanted) found (length r.hand.steps + 1) → IsRunning (record r { core = last; hand = hand }) next loads taken
         stepped next h =
             let steps : hand.steps ≡ r.hand.steps ++ step ∷ [] = ap (λ (x : Progress). x.steps) takes in
-            let thread : hand.thread ≡ r.hand.thread = ap (λ (x : Progress). x.thread) takes in
             let P : Progress → Type 0 = λ x. IsRunning (record r { core = last; hand = x }) next loads taken in
             subst P (sym takes) (record {
               words = is.words;
@@ -215,21 +225,10 @@ module _ (r : Running) (log : DepLogState) (loaded : Option Seen) (taken : List 
                   ap (settled r.program r.limits r.list (is_full r.limits.entries (r.hand.steps ++ step ∷ []))) (took-is ∙ ap (λ (s : State). took s found) ran-core) ∙
                   sym ((obeys r.program r.limits r.list r.hand.thread r.hand.steps).more step);
               own = ap (λ (s : State). s.thread) took-is ∙ (took_takes core found).thread ∙ ran-own;
-              logged = h;
+              logged = noted-is next h;
               loads = subst (λ (x : List Step). HoldsLoad x loads) steps (loads-more r.hand.steps wanted found hand loads steps notes);
               room = is.room;
             })
-
-        -- after a step that read
-        pub stepped-read : (cell : Cell) → found ≡ Some cell → (next : DepLogState) → next ≡ record log { entries = with_read (word_of wanted) cell.tag (length r.hand.steps + 1) log.entries } →
-            IsRunning (record r { core = last; hand = hand }) next loads taken
-        stepped-read cell q next h =
-            stepped next (h ∙ ap (λ (x : DepLogState). record x { entries = with_read (word_of wanted) cell.tag (length r.hand.steps + 1) x.entries }) is.logged ∙
-            ap (λ (x : List Entry). record { words = length r.program.words; limit = r.limits.entries; entries = x }) (sym (thread_log-push r.hand.steps step cell q)))
-
-        -- after a step that only wrote
-        pub stepped-quiet : found ≡ None → IsRunning (record r { core = last; hand = hand }) log loads taken
-        stepped-quiet q = stepped log (is.logged ∙ ap (λ (x : List Entry). record { words = length r.program.words; limit = r.limits.entries; entries = x }) (sym (thread_log-quiet r.hand.steps step q)))
 
 -- ---- what a step says
 

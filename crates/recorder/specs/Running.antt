@@ -7,6 +7,7 @@ use Rattle.replay_model.specs.declared.Want.TheVariants.{Load, Store, Swap, Cond
 use Rattle.replay_model.specs.Steps.{Step, has_ended, reads}
 use Rattle.replay_model.specs.Threads.{Threads, IsRun, no_step}
 use Rattle.replay_model.specs.ThreadLogs.{thread_log, is_full}
+use Rattle.replay_model.specs.MoreReads.{with_read}
 use Rattle.replay_model.specs.Logs.{ThreadLog}
 use Rattle.replay_model.specs.RunLogs.{run_log}
 use Rattle.machine.specs.declared.program.Instr.{Instr}
@@ -89,6 +90,11 @@ IsReadyFor hand loaded (Ended end) = Unit {0}
 -- after a step that wanted and found this, a load is at hand
 abbrev pub NotesLoad : Want → Option Cell → Progress → Option Seen → Type 0
 NotesLoad want found hand loaded = (word : ℕ) (cell : Cell) → want ≡ Load word → found ≡ Some cell → loaded ≡ Some (record { step = length hand.steps; word = word; cell = cell })
+
+-- the log after step n found this in the word
+abbrev pub noted : DepLogState → ℕ → Option Cell → ℕ → DepLogState
+noted log word None n = log
+noted log word (Some cell) n = record log { entries = with_read word cell.tag n log.entries }
 
 -- the thread is at its end
 abbrev pub IsAtEnd : Running → Type 0

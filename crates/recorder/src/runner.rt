@@ -1,10 +1,10 @@
 // A thread that runs at shared words.
-ghost use Rattle.std.specs.Prelude.{◌≡◌, ◌+◌, ◌<◌, ◌≤◌, ◌^◌, true, false, is_some, IfOk, IfErr, OnOk, OnErr, [], length};
+ghost use Rattle.std.specs.Prelude.{◌≡◌, ◌+◌, ◌<◌, ◌≤◌, ◌^◌, true, false, All, Some, is_some, IfOk, IfErr, OnOk, OnErr, [], length};
 ghost use Rattle.replay_model.specs.Steps.{has_ended, reads, word_of};
 ghost use Rattle.machine.specs.Programs.{code_of};
-ghost use Rattle.machine.specs.Cores.{first_state};
+ghost use Rattle.machine.specs.Cores.{first_state, took};
 ghost use Rattle.tagged_words.specs.Hands.{IsOf, Takes, new_hand};
-ghost use Rattle.recorder.specs.Running.{IsReadyFor, NotesLoad, puts_out};
+ghost use Rattle.recorder.specs.Running.{IsReadyFor, NotesLoad, noted, puts_out};
 
 use crate::{Broken, Finished, Gate};
 use dep_log::DepLog;
@@ -88,6 +88,35 @@ fn take_step(words: &Words, hand: &mut Hand, loaded: &mut Option<Seen>, want: &W
     }
 }
 
+// The number of the thread's next step.
+fn next_number(hand: &Hand) -> u32
+    requires { length hand.now.steps + 1 < 2 ^ 28 }
+    ensures { result ≡ length hand.now.steps + 1 }
+{
+    hand.steps() + 1
+}
+
+// Tells the log and the core what the pending step, which has this number, found.
+fn tell(log: &mut DepLog, core: &mut Core, want: &Want, found: Option<Cell>, number: u32)
+    requires pending { core.old.pending ≡ Some want.now }
+    requires lives { has_ended want.now ≡ false }
+    requires found { is_some found ≡ reads want.now }
+    requires word { word_of want.now < log.old.words }
+    requires number { 0 < number }
+    requires later { All (λ entry. entry.last < number) log.old.entries }
+    requires room { reads want.now ≡ true → length log.old.entries < log.old.limit }
+    ensures log { log.new ≡ noted log.old (word_of want.now) found number }
+    ensures core { core.new ≡ took core.old found }
+{
+    match found {
+        Some(cell) => {
+            log.saw(word_of(want), cell.tag, number);
+            core.found(cell);
+        }
+        None => core.stored(),
+    }
+}
+
 impl<'a> Runner<'a> {
     ghost use Rattle.recorder.specs.Running.{Advances, HasRun, IsAtEnd, IsSame};
 
@@ -139,15 +168,10 @@ impl<'a> Runner<'a> {
         if let Want::Ended(_) = want {
             return Ok(false);
         }
-        let number = self.hand.steps() + 1;
+        let number = next_number(&self.hand);
         gate.pass(self.hand.thread(), number);
-        match take_step(self.words, &mut self.hand, &mut self.loaded, &want) {
-            Some(cell) => {
-                self.log.saw(word_of(&want), cell.tag, number);
-                self.core.found(cell);
-            }
-            None => self.core.stored(),
-        }
+        let found = take_step(self.words, &mut self.hand, &mut self.loaded, &want);
+        tell(&mut self.log, &mut self.core, &want, found, number);
         Ok(true)
     }
 

@@ -13,6 +13,7 @@ mod programs;
 mod recordings;
 mod shared_words;
 mod texts;
+mod thread_recordings;
 
 fn is_shared<T: Send + Sync>() {}
 

@@ -13,13 +13,13 @@ use transcript::text_of;
 // A program, its limits, an order of turns, and what they lead to. In texts a slash stands for the end of a line. An
 // entry is told as its word, its source, its first and its last step, and the entries of a thread end with a slash.
 #[derive(Clone, Copy)]
-struct Row {
-    program: &'static str,
-    limits: (u32, u32, u32),
-    order: &'static [u8],
-    entries: &'static str,
-    lasts: &'static str,
-    text: &'static str,
+pub struct Row {
+    pub program: &'static str,
+    pub limits: (u32, u32, u32),
+    pub order: &'static [u8],
+    pub entries: &'static str,
+    pub lasts: &'static str,
+    pub text: &'static str,
 }
 
 const MOST: (u32, u32, u32) = (100, 100, 100);
@@ -376,19 +376,25 @@ fn agrees(recorded: &Recorded, limits: (u32, u32, u32)) -> bool {
         })
 }
 
+// What was recorded is what the row tells.
+pub fn check(rt: &impl Abort, alloc: Global, row: &Row, recorded: &Recorded) -> Result<(), Fail> {
+    assert!(rt; agrees(recorded, row.limits), "{}", row.program);
+    assert_eq!(rt; entries_of(alloc, recorded)?.as_str(), row.entries);
+    if !row.lasts.is_empty() {
+        assert_eq!(rt; lasts_of(alloc, recorded)?.as_str(), row.lasts);
+    }
+    let text = text_of(alloc, recorded.reports(), recorded.finals())?;
+    let expected = lines_of(alloc, row.text)?;
+    assert_eq!(rt; text.as_slice(), expected.as_slice());
+    Ok(())
+}
+
 #[test]
 fn programs_are_recorded_by_turns(rt: HostRuntime) -> Result<(), Fail> {
     let alloc = rt.alloc();
     for row in &ROWS {
         let recorded = recorded(&rt, alloc, row)?;
-        assert!(rt; agrees(&recorded, row.limits), "{}", row.program);
-        assert_eq!(rt; entries_of(alloc, &recorded)?.as_str(), row.entries);
-        if !row.lasts.is_empty() {
-            assert_eq!(rt; lasts_of(alloc, &recorded)?.as_str(), row.lasts);
-        }
-        let text = text_of(alloc, recorded.reports(), recorded.finals())?;
-        let expected = lines_of(alloc, row.text)?;
-        assert_eq!(rt; text.as_slice(), expected.as_slice());
+        check(&rt, alloc, row, &recorded)?;
     }
     Ok(())
 }
