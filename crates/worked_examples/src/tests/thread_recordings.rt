@@ -3,13 +3,14 @@
 use super::programs::program_of;
 use super::recordings::{Row, check};
 use machine::{End, Inputs, Limits, RunReport};
-use recorder::{Gate, OpenGate, Recorded, record};
+use recorder::{Gate, OpenGate, Recorded, record, run_thread};
 use std::alloc::Global;
 use std::process::Abort;
 use std::sync::atomic::{AtomicBool, AtomicU64, Ordering};
 use std::test::Fail;
 use std::thread;
 use std::thread::Threads;
+use tagged_words::Words;
 
 const MOST: (u32, u32, u32) = (100, 100, 100);
 
@@ -179,6 +180,30 @@ fn recorded<R: Threads + Sync + Abort, G: Gate>(
     Ok(record(rt, alloc, &program, &limits, &inputs, gate)?)
 }
 
+// A thread alone at its words, which reads what it wrote.
+#[test]
+fn one_thread_runs_to_its_end(rt: HostRuntime) -> Result<(), Fail> {
+    let alloc = rt.alloc();
+    let text = ".words 1/.thread/in r1/store r1 r0 0/load r2 r0 0/out r2";
+    let program = program_of(&rt, alloc, text)?;
+    let limits = Limits::new(100, 100, 100).ok_or("these are limits")?;
+    let (words, mut hands) = Words::open(alloc, program.words(), 1)?;
+    let hand = hands.pop().ok_or("a hand")?;
+    match run_thread(alloc, &words, hand, &program, &limits, &[7, 8], &OpenGate) {
+        Ok(finished) => {
+            assert_eq!(rt; (finished.hand.thread(), finished.hand.steps()), (0, 2));
+            assert_eq!(rt;
+                (finished.report.instr(), finished.report.output()),
+                (4, [7].as_slice())
+            );
+            assert_eq!(rt; finished.log.entries().len(), 1);
+            assert_eq!(rt; finished.log.taken(), [7].as_slice());
+            Ok(())
+        }
+        Err(_) => Err("no memory".into()),
+    }
+}
+
 // Programs that end alike in each history.
 #[test]
 fn what_is_forced_is_recorded_on_threads(rt: HostRuntime) -> Result<(), Fail> {
@@ -251,19 +276,18 @@ fn messages_are_passed_on_threads(rt: HostRuntime) -> Result<(), Fail> {
     Ok(())
 }
 
+fn missed(report: &RunReport) -> bool {
+    report.output() == [0].as_slice()
+}
+
 #[test]
 fn stores_are_never_both_missed(rt: HostRuntime) -> Result<(), Fail> {
     let alloc = rt.alloc();
     for _ in 0..1000 {
         let recorded = recorded(&rt, alloc, STORE_BUFFERING, MOST, &OpenGate)?;
-        let mut missed = 0;
-        for report in recorded.reports() {
-            assert!(rt; has_halted(report) && report.steps() == 2 && report.instr() == 4);
-            if report.output() == [0].as_slice() {
-                missed += 1;
-            }
-        }
-        assert!(rt; missed < 2, "both threads read 0");
+        let reports = recorded.reports();
+        assert!(rt; reports.iter().all(has_halted));
+        assert!(rt; !reports.iter().all(missed), "both threads read 0");
     }
     Ok(())
 }
