@@ -1,5 +1,6 @@
 // Recording on threads.
 ghost use Rattle.std.specs.Prelude.{◌≡◌, ℕ, ◌<◌, List, All, IfOk, length, map};
+ghost use Rattle.std.specs.List.{range_with_len};
 ghost use Rattle.std.specs.Thread.{IsSync};
 ghost use Rattle.history.specs.Histories.{IsHistory};
 ghost use Rattle.replay_model.specs.RunLogs.{last_tags};
@@ -134,6 +135,29 @@ fn recorded(
     Ok(Recorded::new(log, reports, finals))
 }
 
+// What is recorded of all threads, which have ended, and of the words that they shared.
+fn gather(
+    alloc: Global,
+    words: Words,
+    program: &Program,
+    limits: &Limits,
+    inputs: &Inputs,
+    all: Vec<Finished>,
+) -> Result<Recorded, Memory>
+    requires start { words.start ≡ record { initial = program.now.words; threads = length program.now.threads } }
+    requires each { All (IsDone words program.now limits.now inputs.now) all.items }
+    requires threads { map thread_in all.items ≡ range_with_len 0 (length program.now.threads) }
+    ensures { IfOk result (λ recorded. (history : List ℕ) × IsHistory program.now limits.now inputs.now history × (recorded ≡ recorded_of program.now limits.now inputs.now history)) }
+{
+    // So the log of a history of the program is well formed.
+    prove!(program.words().len() <= 4096);
+    prove!(limits.entries() <= 16_384);
+    prove!(inputs.threads_count() <= 15);
+    let (hands, logs, reports) = parted(alloc, all)?;
+    let cells = words.close(alloc, hands)?;
+    recorded(alloc, limits, &cells, logs, reports)
+}
+
 /// Runs a program with its inputs on threads and records it: each thread of the program has a worker of its own, and all of
 /// them share the program's words. What is recorded is that of one whole history of the program, in which the threads'
 /// memory steps follow one another.
@@ -152,10 +176,5 @@ pub fn record<R: Threads + Sync, G: Gate>(
 {
     let (words, hands) = Words::open(alloc, program.words(), program.threads_count() as u8)?;
     let all = run_all(rt, alloc, &words, hands, program, limits, inputs, gate)?;
-    // So no thread has more entries or input numbers than a log can hold.
-    prove!(limits.entries() <= 16_384);
-    prove!(inputs.threads_count() <= 15);
-    let (hands, logs, reports) = parted(alloc, all)?;
-    let cells = words.close(alloc, hands)?;
-    recorded(alloc, limits, &cells, logs, reports)
+    gather(alloc, words, program, limits, inputs, all)
 }
