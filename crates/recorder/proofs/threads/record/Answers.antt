@@ -1,4 +1,4 @@
-use Rattle.std.proofs.Common.{◌≡◌, ℕ, List, map, length, ◌∙◌, ap}
+use Rattle.std.proofs.Common.{◌≡◌, ℕ, map, length, ◌∙◌, ap}
 use Rattle.std.specs.Prelude.{All}
 use Rattle.std.specs.List.{range_with_len}
 use Rattle.tagged_words.specs.Hands.{new_hand}
