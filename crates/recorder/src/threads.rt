@@ -10,7 +10,7 @@ ghost use Rattle.recorder.specs.Gathered.{IsReady, IsDone, hand_in, log_in, repo
 
 use crate::Gate;
 use crate::recorded::Recorded;
-use crate::thread_runs::{Broken, Finished, run_thread};
+use crate::thread_runs::{Finished, run_thread};
 use crate::turns::last_tags;
 use dep_log::{RunLog, ThreadLog};
 use light_base::{Cell, Memory};
