@@ -4,4 +4,5 @@
 mod lines;
 mod text;
 
+pub use lines::put_end;
 pub use text::text_of;

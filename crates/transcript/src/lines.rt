@@ -7,7 +7,8 @@ use light_base::{Memory, put_decimal};
 use machine::RunReport;
 use replay_model::End;
 
-fn put_end(text: &mut Vec<u8>, end: End) -> Result<(), Memory>
+/// Appends how a thread ended.
+pub fn put_end(text: &mut Vec<u8>, end: End) -> Result<(), Memory>
     ensures { OnOk result (text.new.items ≡ text.old.items ++ end_text end) }
 {
     match end {
