@@ -8,4 +8,11 @@ pub mod Solving
 pub mod Respecting
 pub mod Sorting
 pub mod Shapes
+pub mod Strict
+pub mod Naming
+pub mod Listing
+pub mod Points
+pub mod RowCuts
+pub mod Placing
+pub mod Gathering
 pub mod WorkedExamples

@@ -1,4 +1,6 @@
 pub mod Positions
 pub mod Constraints
+pub mod Rows
+pub mod Building
 pub mod Laws
 pub mod Examples

@@ -3,3 +3,8 @@
 
 pub mod examples;
 pub mod laws;
+
+mod events;
+mod placed;
+mod reads;
+mod rows;

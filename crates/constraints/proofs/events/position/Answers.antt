@@ -1,0 +1,12 @@
+use Rattle.std.proofs.Common.{rules}
+use Rattle.std.proofs.lemmas.List.Sorted.{IsPartitionPoint-from_clause}
+use Rattle.replay_model.specs.Steps.{Event}
+use Rattle.constraints.specs.Building.{is_before}
+use Rattle.constraints.proofs.Listing.{listed-partitioned, point-place}
+use Rattle.constraints.proofs.events.position.Goals as goal
+
+pub returns : goal.returns
+returns c =
+    point-place c.args.events.now c.args.event c.partition_point.result c.requires.order c.requires.listed c.partition_point.ensures.bound
+    (IsPartitionPoint-from_clause (λ (x : Event). is_before x c.args.event) c.args.events.now c.partition_point.result c.partition_point.ensures.partitioned
+    (listed-partitioned c.args.events.now c.args.event c.requires.order) (λ a r f' k. search rules))

@@ -1,0 +1,123 @@
+-- What the parts of a problem are made of: the tags that a log names, its entries by positions, and rows of numbers.
+use Rattle.std.specs.Prelude.{◌≡◌, ℕ, ◌+◌, Bool, true, false, cond, not, ◌||◌, ◌&&◌, eqb, nat_lt, Option, Some, None, is_some, option_map, IfSome, Contains, List, [], ◌∷◌, ◌++◌, length, map, slice_index_or}
+use Rattle.std.specs.List.{flat_map, range_with_len, count_by, AllPairs}
+use Rattle.std.specs.Ordering.{nat_cmp, ordering_then}
+use Rattle.std.specs.declared.cmp.Ordering.{Ordering}
+use Rattle.std.specs.declared.cmp.Ordering.TheVariants.{Less}
+use Rattle.light_base.specs.declared.tag.Event.{Event}
+use Rattle.light_base.specs.declared.tag.Tag.{Tag}
+use Rattle.plain_search.specs.declared.Edge.{Edge}
+use Rattle.plain_search.specs.Chains.{arrow}
+use Rattle.replay_model.specs.declared.Entry.{Entry}
+use Rattle.replay_model.specs.Logs.{Log, thread_of, first_event, last_event}
+use Rattle.constraints.specs.declared.placed.Placed.{Placed}
+use Rattle.constraints.specs.declared.reads.Read.{Read}
+use Rattle.constraints.specs.declared.reads.Key.{Key}
+use Rattle.replay_model.specs.Orders.{place}
+use Rattle.constraints.specs.Positions.{thread_numbers, event_list, event_at}
+use Rattle.constraints.specs.Constraints.{sources_of, lasts_from, edges_to, edges_from}
+
+-- the tags that an entry of thread t names
+abbrev pub mentioned_by : ℕ → Entry → List Tag
+mentioned_by t entry = entry.source ∷ Some (first_event t entry) ∷ Some (last_event t entry) ∷ []
+
+-- the tags that a log names
+abbrev pub mentioned_tags : Log → List Tag
+mentioned_tags log = flat_map (λ t. flat_map (mentioned_by t) (thread_of log t).entries) (thread_numbers log) ++ log.lasts
+
+-- whether the one event comes before the other: by thread, and then by number
+abbrev pub is_before : Event → Event → Bool
+is_before a b = nat_lt a.thread b.thread || (eqb a.thread b.thread && nat_lt a.step b.step)
+
+-- the events go by thread, and then by number
+abbrev pub IsListed : List Event → Type 0
+IsListed events = AllPairs (λ (a b : Event). is_before a b ≡ true) events
+
+-- the number of events of the threads before thread t
+abbrev pub started_before : List Event → ℕ → ℕ
+started_before events t = count_by (λ (e : Event). nat_lt e.thread t) events
+
+-- where the events of each thread begin, and the number of events at the end
+abbrev pub starts_of : List Event → ℕ → List ℕ
+starts_of events threads = map (started_before events) (range_with_len 0 (threads + 1))
+
+-- an entry of thread t by positions in a list of events
+abbrev pub placed_in : List Event → ℕ → Entry → Placed
+placed_in events t entry = record {
+  word = entry.word;
+  source = option_map (place events) entry.source;
+  first = place events (first_event t entry);
+  last = place events (last_event t entry);
+}
+
+-- the log's entries by positions, thread after thread
+abbrev pub placed_entries : Log → List Placed
+placed_entries log = flat_map (λ t. map (placed_in (event_list log) t) (thread_of log t).entries) (thread_numbers log)
+
+-- the log's last tags by positions
+abbrev pub placed_finals : Log → List (Option ℕ)
+placed_finals log = map (option_map (place (event_list log))) log.lasts
+
+-- the list has the events that an entry of thread t names
+pub record HasEvents (events : List Event) (t : ℕ) (entry : Entry) : Type 0 where
+  pub source : IfSome entry.source (λ (e : Event). Contains events e)
+  pub first : Contains events (first_event t entry)
+  pub last : Contains events (last_event t entry)
+
+-- what an entry says of a word's source that is not initial
+abbrev pub read_of : Placed → Option Read
+read_of placed = option_map (λ source. record { word = placed.word; source = source; last = placed.last }) placed.source
+
+-- which source of which word
+abbrev pub key_of : Read → Key
+key_of read = record { word = read.word; source = read.source }
+
+-- whether there is a number, and it is this one
+abbrev pub is_at : Option ℕ → ℕ → Bool
+is_at None n = false
+is_at (Some m) n = eqb m n
+
+-- what an entry's source asks for, by positions
+abbrev pub placed_source_edges : List (List ℕ) → Placed → Option ℕ → List Edge
+placed_source_edges sources placed None = edges_from placed.last (slice_index_or sources placed.word [])
+placed_source_edges sources placed (Some source) = arrow source placed.first ∷ []
+
+-- what the word's last tag asks for
+abbrev pub placed_final_edges : Placed → Option ℕ → List Edge
+placed_final_edges placed None = []
+placed_final_edges placed (Some final) = cond (is_at placed.source final) [] (edges_to (placed.last ∷ []) final)
+
+abbrev pub placed_edges : List (List ℕ) → List (Option ℕ) → Placed → List Edge
+placed_edges sources finals placed = placed_source_edges sources placed placed.source ++ placed_final_edges placed (slice_index_or finals placed.word None)
+
+-- whether the entry is of a word whose last tag is initial, and has another source
+abbrev pub is_shut : List (Option ℕ) → Placed → Bool
+is_shut finals placed = not (is_some (slice_index_or finals placed.word None)) && is_some placed.source
+
+-- by word, then by source, and then by last
+abbrev pub read_cmp : Read → Read → Ordering
+read_cmp a b = ordering_then (nat_cmp a.word b.word) (ordering_then (nat_cmp a.source b.source) (nat_cmp a.last b.last))
+
+-- by word, and then by source
+abbrev pub key_cmp : Key → Key → Ordering
+key_cmp a b = ordering_then (nat_cmp a.word b.word) (nat_cmp a.source b.source)
+
+-- the keys are those of the log's sources, each once and in order
+pub record AreKeys (log : Log) (keys : List Key) : Type 0 where
+  pub order : AllPairs (λ (a b : Key). key_cmp a b ≡ Less) keys
+  pub all : (word source : ℕ) → Contains (sources_of log word) source → Contains keys (record { word = word; source = source })
+  pub only : (key : Key) → Contains keys key → Contains (sources_of log key.word) key.source
+
+-- the reads are those of the lasts of the log's sources, each once and in order
+pub record AreReads (log : Log) (reads : List Read) : Type 0 where
+  pub order : AllPairs (λ (a b : Read). read_cmp a b ≡ Less) reads
+  pub all : (word source last : ℕ) → Contains (sources_of log word) source → Contains (lasts_from log word source) last →
+      Contains reads (record { word = word; source = source; last = last })
+  pub only : (read : Read) → Contains reads read → Contains (sources_of log read.word) read.source × Contains (lasts_from log read.word read.source) read.last
+
+-- the sources of each word, and the lasts of each source, word after word
+abbrev pub source_rows : Log → List (List ℕ)
+source_rows log = map (sources_of log) (range_with_len 0 (length log.lasts))
+
+abbrev pub last_rows : Log → List (List ℕ)
+last_rows log = flat_map (λ word. map (lasts_from log word) (sources_of log word)) (range_with_len 0 (length log.lasts))
