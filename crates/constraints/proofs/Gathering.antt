@@ -1,9 +1,9 @@
 -- The reads of a log and the keys of its sources, sorted and each kept once.
-use Rattle.std.proofs.Common.{◌≡◌, ℕ, zero, suc, ◌+◌, ◌<◌, ◌≤◌, Bool, true, false, eqb, Some, None, Option, Ordering, nat_cmp, List, [], ◌∷◌, ◌++◌, length, get_or, map, refl, sym, ◌∙◌, ap, subst, arith, inl, inr, ◌⊎◌}
+use Rattle.std.proofs.Common.{◌≡◌, ℕ, ◌+◌, ◌<◌, Bool, true, false, eqb, Some, None, Ordering, nat_cmp, List, length, get_or, map, refl, sym, ◌∙◌, ap, subst, arith}
 use Rattle.std.specs.Prelude.{Contains, ◌&&◌, option_map}
 use Rattle.std.specs.Cmp.{IsTotalOrder, IsEquivalence}
-use Rattle.std.specs.Ordering.{eq_by_cmp, is_eq, is_lt, ordering_then, on, then_cmp, ordering_reverse}
-use Rattle.std.specs.List.{dedup, filter_map, AllPairs, All}
+use Rattle.std.specs.Ordering.{eq_by_cmp, is_eq, is_lt, ordering_then, ordering_reverse}
+use Rattle.std.specs.List.{dedup, filter_map, AllPairs}
 use Rattle.std.specs.List.Sorted.{IsSorted, IsPermutation}
 use Rattle.std.specs.declared.cmp.Ordering.TheVariants.{Less, Equal, Greater}
 use Rattle.std.proofs.lemmas.Cmp.{nat_cmp_total, on_total, then_total, eq_by_cmp_equiv}
@@ -11,12 +11,10 @@ use Rattle.std.proofs.lemmas.Bool.{and_parts, eqb-true}
 use Rattle.std.proofs.lemmas.List.{get_or-map, length-map}
 use Rattle.std.proofs.lemmas.List.Sorted.{Contains-permutation, IsPermutation-sym}
 use Rattle.std.proofs.lemmas.List.Kept.{Contains-dedup, Contains-from_dedup}
-use Rattle.light_base.specs.declared.tag.Event.{Event}
 use Rattle.light_base.specs.declared.tag.Tag.{Tag}
 use Rattle.replay_model.specs.declared.Entry.{Entry}
-use Rattle.replay_model.specs.Logs.{Log, HasEntry, first_event, last_event}
+use Rattle.replay_model.specs.Logs.{Log, HasEntry, last_event}
 use Rattle.replay_model.specs.WellFormed.{IsWellFormed}
-use Rattle.replay_model.specs.Orders.{place}
 use Rattle.constraints.specs.declared.placed.Placed.{Placed}
 use Rattle.constraints.specs.declared.reads.Read.{Read}
 use Rattle.constraints.specs.declared.reads.Key.{Key}
@@ -24,10 +22,10 @@ use Rattle.constraints.specs.contracts.reads.ReadPartialEq.TheImpl as reads
 use Rattle.constraints.specs.contracts.reads.KeyPartialEq.TheImpl as keys
 use Rattle.constraints.specs.Positions.{event_list, event_at, position_of}
 use Rattle.constraints.specs.Constraints.{sources_of, lasts_from}
-use Rattle.constraints.specs.Building.{placed_in, placed_entries, read_of, key_of, read_cmp, key_cmp, AreReads, AreKeys}
+use Rattle.constraints.specs.Building.{placed_in, placed_entries, read_of, key_of, read_cmp, key_cmp, AreInOrder, AreReadsInOrder, AreReads, AreKeys}
 use Rattle.constraints.proofs.Members.{of_map, in_map}
 use Rattle.constraints.proofs.Listed.{in_list, event-position, position-event}
-use Rattle.constraints.proofs.Strict.{deduped, nat_ties, nat-less, of_filter_map, in_filter_map}
+use Rattle.constraints.proofs.Strict.{deduped, nat_ties, of_filter_map, in_filter_map}
 use Rattle.constraints.proofs.Placing.{of_placed, in_placed}
 use Rattle.constraints.proofs.Sources.{source_in, of_sources, in_sources, of_lasts, in_lasts}
 
@@ -40,10 +38,10 @@ same_key = (keys.ghosts).eq
 abbrev read : ℕ → ℕ → ℕ → Read
 read word source last = record { word = word; source = source; last = last }
 
-read_total : IsTotalOrder read_cmp
+pub read_total : IsTotalOrder read_cmp
 read_total = then_total (on_total (λ (r : Read). r.word) nat_cmp_total) (then_total (on_total (λ (r : Read). r.source) nat_cmp_total) (on_total (λ (r : Read). r.last) nat_cmp_total))
 
-key_total : IsTotalOrder key_cmp
+pub key_total : IsTotalOrder key_cmp
 key_total = then_total (on_total (λ (k : Key). k.word) nat_cmp_total) (on_total (λ (k : Key). k.source) nat_cmp_total)
 
 then-eq : (a b : Ordering) → is_eq (ordering_then a b) ≡ (is_eq a && is_eq b)
@@ -90,8 +88,11 @@ same_key-same x y h =
 -- what `dedup` keeps of equal elements
 kept : {X : Type 0} {R : X → X → Ordering} (o : IsTotalOrder R) {E : X → X → Bool} (ties : (x y : X) → E x y ≡ eq_by_cmp R x y) (same : (x y : X) → E x y ≡ true → x ≡ y) (xs : List X) (x : X) → Contains xs x → Contains (dedup E xs) x
 kept {X} {R} o {E} ties same xs x c =
-    let e : IsEquivalence E = record { refl = λ a. ties a a ∙ (eq_by_cmp_equiv o).refl a; symm = λ a b. ties a b ∙ (eq_by_cmp_equiv o).symm a b ∙ sym (ties b a);
-        congr = λ a b d h. ties a d ∙ (eq_by_cmp_equiv o).congr a b d (sym (ties a b) ∙ h) ∙ sym (ties b d) } in
+    let e : IsEquivalence E = record {
+      refl = λ a. ties a a ∙ (eq_by_cmp_equiv o).refl a;
+      symm = λ a b. ties a b ∙ (eq_by_cmp_equiv o).symm a b ∙ sym (ties b a);
+      congr = λ a b d h. ties a d ∙ (eq_by_cmp_equiv o).congr a b d (sym (ties a b) ∙ h) ∙ sym (ties b d);
+    } in
     Contains-dedup e same xs x c
 
 -- the reads that entries by positions give
@@ -133,13 +134,15 @@ in_read log formed word source last c d =
     let y : position_of log (last_event t a) ≡ last = ap (position_of log) e ∙ position-event log last l in
     in_filter_map read_of (placed_entries log) (placed_in (event_list log) t a) (read word source last) (in_placed log t a h)
     (let P : Tag → Type 0 = λ tag. option_map (λ s. read a.word s (position_of log (last_event t a))) (option_map (position_of log) tag) ≡ Some (read word source last) in
-     subst P (sym q) (λ i. Some (read (w i) (x i) (y i))))
+    subst P (sym q) (λ i. Some (read (w i) (x i) (y i))))
 
-pub reads_sorted : (log : Log) → IsWellFormed log → (placed : List Placed) (xs ys zs : List Read) → placed ≡ placed_entries log → xs ≡ filter_map read_of placed → IsPermutation xs ys → IsSorted read_cmp ys → zs ≡ dedup same_read ys → AreReads log zs
-reads_sorted log formed placed xs ys zs p q perm sorted d =
+pub reads_in_order : (ys zs : List Read) → IsSorted read_cmp ys → zs ≡ dedup same_read ys → AreReadsInOrder zs
+reads_in_order ys zs sorted d = let P : List Read → Type 0 = λ rs. AreReadsInOrder rs in subst P (sym d) (deduped read_total read_ties ys sorted)
+
+pub reads_sorted : (log : Log) → IsWellFormed log → (placed : List Placed) (xs ys zs : List Read) → placed ≡ placed_entries log → xs ≡ filter_map read_of placed → IsPermutation xs ys → zs ≡ dedup same_read ys → AreReads log zs
+reads_sorted log formed placed xs ys zs p q perm d =
     let P : List Read → Type 0 = λ rs. AreReads log rs in
     subst P (sym d) (record {
-      order = deduped read_total read_ties ys sorted;
       all = λ w s l c m. kept read_total read_ties same_read-same ys (read w s l) (Contains-permutation xs ys (read w s l) perm
           (let Q : List Read → Type 0 = λ rs. Contains rs (read w s l) in subst Q (sym (q ∙ ap (filter_map read_of) p)) (in_read log formed w s l c m)));
       only = λ r c. of_read log formed r (let Q : List Read → Type 0 = λ rs. Contains rs r in subst Q (q ∙ ap (filter_map read_of) p)
@@ -178,12 +181,16 @@ keys-ordered reads h k d l m =
     let y : get_or (map key_of reads) k d ≡ key_of (get_or reads k o) = get_or-map key_of reads k o d (let q : k < length reads = omega (arith, n) in q) in
     rw (x, y) (key-order (get_or reads k o) (get_or reads (k + 1) o) (h k (k + 1) o (omega arith) n))
 
+pub keys_in_order : (reads : List Read) (xs zs : List Key) → AreReadsInOrder reads → xs ≡ map key_of reads → zs ≡ dedup same_key xs → AreInOrder zs
+keys_in_order reads xs zs h q d =
+    let P : List Key → Type 0 = λ ks. AreInOrder ks in
+    subst P (sym (d ∙ ap (dedup same_key) q)) (deduped key_total key_ties (map key_of reads) (keys-ordered reads h))
+
 pub keys_sorted : (log : Log) → IsWellFormed log → (reads : List Read) (xs zs : List Key) → AreReads log reads → xs ≡ map key_of reads → zs ≡ dedup same_key xs → AreKeys log zs
 keys_sorted log formed reads xs zs are q d =
     let P : List Key → Type 0 = λ ks. AreKeys log ks in
     let e : zs ≡ dedup same_key (map key_of reads) = d ∙ ap (dedup same_key) q in
     subst P (sym e) (record {
-      order = deduped key_total key_ties (map key_of reads) (keys-ordered reads are.order);
       all = all;
       only = λ k c. let (r, m, p) = of_map key_of reads k (Contains-from_dedup same_key (map key_of reads) k c) in
           let Q : Key → Type 0 = λ k. Contains (sources_of log k.word) k.source in subst Q p (are.only r m).0;

@@ -15,4 +15,8 @@ pub mod Points
 pub mod RowCuts
 pub mod Placing
 pub mod Gathering
+pub mod Cuts
+pub mod Rowing
+pub mod LastRows
+pub mod Groups
 pub mod WorkedExamples

@@ -1,29 +1,28 @@
 -- The tags that a log names, sorted and each kept once, are its events; and where an event stands among them.
-use Rattle.std.proofs.Common.{◌≡◌, ℕ, zero, suc, ◌+◌, ◌*◌, ◌^◌, ◌<◌, ◌≤◌, Bool, true, false, eqb, ltb, Some, None, Option, nat_cmp, List, [], ◌∷◌, ◌++◌, length, get_or, map, refl, sym, ◌∙◌, ap, subst, arith, inl, inr, ◌⊎◌}
-use Rattle.std.specs.Prelude.{Contains, IfSome, ◌||◌, ◌&&◌, ◌≢◌}
-use Rattle.std.specs.Ordering.{is_lt, on}
-use Rattle.std.specs.List.{dedup, filter_map, flat_map, range_with_len, AllPairs, All, Any}
+use Rattle.std.proofs.Common.{◌≡◌, ℕ, ◌+◌, ◌*◌, ◌^◌, ◌<◌, ◌≤◌, true, false, eqb, ltb, Some, None, nat_cmp, List, [], ◌∷◌, length, get_or, sym, ◌∙◌, ap, subst, arith, inl, inr, ◌⊎◌}
+use Rattle.std.specs.Prelude.{Contains, ◌&&◌}
+use Rattle.std.specs.Ordering.{on}
+use Rattle.std.specs.List.{dedup, filter_map, flat_map}
 use Rattle.std.specs.List.Sorted.{IsSorted, IsPermutation, IsPartitionPoint, IsPartitionedBy}
 use Rattle.std.specs.declared.cmp.Ordering.TheVariants.{Less}
-use Rattle.std.proofs.lemmas.Cmp.{nat_cmp_total, on_total, eq_by_cmp_equiv, on_equiv, nat_eq_equiv}
-use Rattle.std.proofs.lemmas.Bool.{cases_Bool, cases_order, cases_lt, eqb-true, eq-eqb, ltb-true, lt-ltb, or_cases, or_left, or_right, and_parts, and_from, both_ways}
-use Rattle.std.proofs.lemmas.List.{get_or_default}
+use Rattle.std.proofs.lemmas.Cmp.{nat_cmp_total, on_total, on_equiv, nat_eq_equiv}
+use Rattle.std.proofs.lemmas.Bool.{cases_order, cases_lt, eqb-true, eq-eqb, ltb-true, lt-ltb, or_cases, or_left, or_right, and_parts, and_from, both_ways}
 use Rattle.std.proofs.lemmas.List.Sorted.{Contains-permutation, IsPermutation-sym}
 use Rattle.std.proofs.lemmas.List.Kept.{Any-dedup, Contains-from_dedup}
-use Rattle.std.proofs.lemmas.List.Elements.{Contains-append_left, Contains-append_right, Contains-append_cases, Contains-get_or}
-use Rattle.light_base.specs.Tags.{HasTag, IsWriter, bits_of, writer_of}
+use Rattle.std.proofs.lemmas.List.Elements.{Contains-append_left, Contains-append_right, Contains-append_cases}
+use Rattle.light_base.specs.Tags.{HasTag, bits_of, writer_of}
 use Rattle.light_base.specs.declared.tag.Event.{Event}
 use Rattle.light_base.specs.declared.tag.Tag.{Tag}
 use Rattle.light_base.proofs.Tags.{writer_of-bits_of}
 use Rattle.replay_model.specs.declared.Entry.{Entry}
 use Rattle.replay_model.specs.Logs.{Log, thread_of, HasEntry, first_event, last_event}
 use Rattle.replay_model.specs.Events.{IsEvent}
-use Rattle.replay_model.specs.WellFormed.{IsWellFormed, IsTaken}
+use Rattle.replay_model.specs.WellFormed.{IsWellFormed}
 use Rattle.replay_model.specs.Orders.{place}
 use Rattle.replay_laws.proofs.Places.{place-contains, at_place, entry_thread}
-use Rattle.constraints.specs.Positions.{thread_numbers, event_list, no_event}
-use Rattle.constraints.specs.Building.{mentioned_by, mentioned_tags, is_before, IsListed}
-use Rattle.constraints.proofs.Members.{contains_none, contains_here, contains_next, contains_cases, of_flat_map, in_flat_map, of_range, in_range}
+use Rattle.constraints.specs.Positions.{thread_numbers, event_list, is_before, IsListed}
+use Rattle.constraints.specs.Building.{mentioned_by, mentioned_tags}
+use Rattle.constraints.proofs.Members.{contains_none, contains_cases, of_flat_map, in_flat_map, in_range}
 use Rattle.constraints.proofs.Listed.{Before, event_taken, of_list, in_list, list_before}
 use Rattle.constraints.proofs.Strict.{same_ordered, deduped, nat_ties, nat-less, of_filter_map, in_filter_map, AllPairs-filter_map}
 use Rattle.constraints.proofs.Naming.{steps_small}

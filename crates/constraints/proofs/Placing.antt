@@ -1,8 +1,8 @@
 -- Entries by positions.
-use Rattle.std.proofs.Common.{◌≡◌, ℕ, zero, suc, ◌+◌, ◌*◌, ◌^◌, ◌<◌, ◌≤◌, Bool, true, false, Some, None, Option, List, [], ◌∷◌, ◌++◌, length, get_or, map, refl, sym, ◌∙◌, ap, subst, arith, inl, inr, ◌⊎◌}
-use Rattle.std.specs.Prelude.{Contains, IfSome, All, filter}
-use Rattle.std.specs.List.{flat_map, range_with_len, sum_by}
-use Rattle.std.proofs.lemmas.List.{get_or_default, length-map, length-append}
+use Rattle.std.proofs.Common.{◌≡◌, ℕ, zero, suc, ◌+◌, ◌*◌, ◌^◌, ◌<◌, ◌≤◌, Some, None, List, ◌++◌, length, get_or, map, refl, sym, ◌∙◌, ap, subst, arith, inl, inr}
+use Rattle.std.specs.Prelude.{Contains, IfSome, All}
+use Rattle.std.specs.List.{flat_map, range_with_len}
+use Rattle.std.proofs.lemmas.List.{length-map, length-append}
 use Rattle.std.proofs.lemmas.List.FromFn.{length-range_with_len}
 use Rattle.std.proofs.lemmas.List.Sums.{length-filter, count_by-le-length}
 use Rattle.std.proofs.lemmas.List.Elements.{Contains-get_or}
@@ -10,11 +10,11 @@ use Rattle.light_base.specs.declared.tag.Event.{Event}
 use Rattle.light_base.specs.declared.tag.Tag.{Tag}
 use Rattle.replay_model.specs.declared.Entry.{Entry}
 use Rattle.replay_model.specs.Logs.{ThreadLog, Log, thread_of, HasEntry, first_event, last_event}
-use Rattle.replay_model.specs.Events.{IsEvent, is_event}
+use Rattle.replay_model.specs.Events.{is_event}
 use Rattle.replay_model.specs.WellFormed.{IsWellFormed}
-use Rattle.constraints.specs.Positions.{event, thread_numbers, events_of_thread, event_list}
+use Rattle.constraints.specs.Positions.{event, thread_numbers, events_of_thread, event_list, IsListed}
 use Rattle.constraints.specs.declared.placed.Placed.{Placed}
-use Rattle.constraints.specs.Building.{IsListed, HasEvents, placed_in, placed_entries}
+use Rattle.constraints.specs.Building.{HasEvents, placed_in, placed_entries}
 use Rattle.replay_laws.proofs.Places.{entry_thread}
 use Rattle.constraints.proofs.Members.{of_flat_map, in_flat_map, of_map, in_map, in_range}
 use Rattle.constraints.proofs.Listed.{in_list}

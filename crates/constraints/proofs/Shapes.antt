@@ -19,9 +19,10 @@ use Rattle.plain_search.specs.Chains.{arrow, links, chains_from}
 use Rattle.plain_search.specs.Searches.{Pair}
 use Rattle.constraints.specs.Positions.{thread_numbers, events_of_thread, event_list, counts_of, event_at, position_of}
 use Rattle.constraints.specs.Constraints.{is_last_of, sources_of, lasts_from, edges_to, edges_from, source_edges, final_edges, entry_edges, base_of, pairs_of, problem_of_log}
-use Rattle.constraints.specs.Laws.{EventsAreListed, SourcesRise, IsWithin, EdgesAreWithin, SidesExclude}
+use Rattle.constraints.specs.Laws.{EventsAreListed, SourcesRise, IsWithin, EdgesAreWithin, SidesExclude, SourcesAreRead}
 use Rattle.constraints.proofs.Members.{Rising, contains_none, contains_cases, of_filter, of_map}
 use Rattle.constraints.proofs.Listed.{entry_is, of_list, in_list, list_once, position-event, event-position, position-below, positions-rising}
+use Rattle.constraints.proofs.Listing.{list-listed}
 use Rattle.constraints.proofs.Ranked.{NotAfter, All-from, Holds-split, hold-edges_to}
 use Rattle.constraints.proofs.Sources.{source_in, first_in, last_in, of_sources, of_lasts, in_lasts}
 use Rattle.constraints.proofs.Rivals.{sources-rising, of_pairs}
@@ -30,6 +31,7 @@ use Rattle.constraints.proofs.Respecting.{last_tag_in}
 
 pub events_are_listed : EventsAreListed
 events_are_listed log formed = record {
+  order = list-listed log;
   all = in_list log formed;
   only = of_list log;
   once = list_once log;
@@ -129,23 +131,38 @@ edges_are_within log formed = record {
       subst (λ (x : Pair). IsWithin log x.greater) q (record { within = edges_to-end (length (event_list log)) (lasts_from log w t) s (λ k m. (of_lasts log w t k m).0) (of_sources log w s a).0 }));
 }
 
--- where a side's edges hold, its source ranks below the other one
-side_ranks : (log : Log) (word s t : ℕ) (rank : ℕ → ℕ) → IsWellFormed log → Holds rank (problem_of_log log).edges → Contains (sources_of log word) s → Holds rank (edges_to (lasts_from log word s) t) → rank s < rank t
-side_ranks log word s t rank formed holds c h =
-    let (l, (u, a, d, w, q)) = of_sources log word s c in
+-- a source ranks below the last of each entry that it has
+read_ranks : (log : Log) (s : ℕ) (rank : ℕ → ℕ) → IsWellFormed log → Holds rank (problem_of_log log).edges → s < length (event_list log) → (u : ℕ) (a : Entry) → HasEntry log u a → a.source ≡ Some (event_at log s) →
+    rank s < rank (position_of log (last_event u a))
+read_ranks log s rank formed holds l u a d q =
     let x : rank (position_of log (event_at log s)) < rank (position_of log (first_event u a)) = source_rises log rank parts.1 u a (event_at log s) d q in
     let y : rank (position_of log (event_at log s)) ≡ rank s = ap rank (position-event log s l) in
-    go (position_of log (last_event u a)) (hold-edges_to rank (lasts_from log word s) t (position_of log (last_event u a)) h (in_lasts log formed word s u a d w q))
-    (let v = within u a d (cases_order a.first a.last) in omega (arith, v, x, y))
+    let v = within (cases_order a.first a.last) in
+    omega (arith, v, x, y)
   where
     parts : Holds rank (chains_from 0 (counts_of log)) × Holds rank (base_of log)
     parts = Holds-split rank (chains_from 0 (counts_of log)) (base_of log) holds
 
-    within : (u : ℕ) (a : Entry) → HasEntry log u a → (a.first ≡ a.last) ⊎ ((a.first < a.last) ⊎ (a.last < a.first)) → rank (position_of log (first_event u a)) ≤ rank (position_of log (last_event u a))
-    within u a d (inl e) = let F : ℕ → Event = λ n. record { thread = u; step = n } in let q = ap (λ (n : ℕ). rank (position_of log (F n))) e in omega (arith, q)
-    within u a d (inr (inl l)) = let r = chains_keep log rank formed parts.0 (first_event u a) (last_event u a) (first_in log u a d) (last_in log u a d) refl l in omega (arith, r)
-    within u a d (inr (inr l)) = let f = (entry_is log formed u a d).between in absurd (omega (arith, f, l))
+    within : (a.first ≡ a.last) ⊎ ((a.first < a.last) ⊎ (a.last < a.first)) → rank (position_of log (first_event u a)) ≤ rank (position_of log (last_event u a))
+    within (inl e) = let F : ℕ → Event = λ n. record { thread = u; step = n } in let q = ap (λ (n : ℕ). rank (position_of log (F n))) e in omega (arith, q)
+    within (inr (inl l)) = let r = chains_keep log rank formed parts.0 (first_event u a) (last_event u a) (first_in log u a d) (last_in log u a d) refl l in omega (arith, r)
+    within (inr (inr l)) = let f = (entry_is log formed u a d).between in absurd (omega (arith, f, l))
 
+pub sources_are_read : SourcesAreRead
+sources_are_read log word s last rank formed holds c d =
+    let (k, (u, a, h, w, q, e)) = of_lasts log word s last d in
+    let x = read_ranks log s rank formed holds (of_sources log word s c).0 u a h q in
+    let y : position_of log (last_event u a) ≡ last = ap (position_of log) e ∙ position-event log last k in
+    let z = ap rank y in
+    omega (arith, x, z)
+
+-- where a side's edges hold, its source ranks below the other one
+side_ranks : (log : Log) (word s t : ℕ) (rank : ℕ → ℕ) → IsWellFormed log → Holds rank (problem_of_log log).edges → Contains (sources_of log word) s → Holds rank (edges_to (lasts_from log word s) t) → rank s < rank t
+side_ranks log word s t rank formed holds c h =
+    let (l, (u, a, d, w, q)) = of_sources log word s c in
+    go (position_of log (last_event u a)) (hold-edges_to rank (lasts_from log word s) t (position_of log (last_event u a)) h (in_lasts log formed word s u a d w q))
+    (read_ranks log s rank formed holds l u a d q)
+  where
     go : (p : ℕ) → NotAfter rank p t → rank s < rank p → rank s < rank t
     go p (inl e) f = let q = ap rank e in omega (arith, q, f)
     go p (inr m) f = omega (arith, m, f)

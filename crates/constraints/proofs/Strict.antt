@@ -1,15 +1,15 @@
 -- Lists in strict order: what a sort and `dedup` leave, and that such a list is known by what it holds.
-use Rattle.std.proofs.Common.{◌≡◌, ℕ, zero, suc, ◌+◌, ◌<◌, ◌≤◌, Bool, true, false, eqb, Some, None, Option, Ordering, nat_cmp, List, [], ◌∷◌, ◌++◌, length, get_or, map, refl, sym, ◌∙◌, ap, subst, arith, inl, inr, ◌⊎◌}
+use Rattle.std.proofs.Common.{◌≡◌, ℕ, ◌<◌, Bool, eqb, Some, None, Option, Ordering, nat_cmp, List, [], ◌∷◌, refl, sym, ◌∙◌, ap, subst, arith, inl, inr, ◌⊎◌}
 use Rattle.std.specs.Prelude.{Contains}
 use Rattle.std.specs.Cmp.{IsTotalOrder}
-use Rattle.std.specs.Ordering.{eq_by_cmp, is_eq, is_lt}
-use Rattle.std.specs.List.{dedup, cons_option, filter_map, AllPairs, All, Any}
-use Rattle.std.specs.List.Sorted.{IsSorted, IsPermutation, IsStrictlySortedBy}
-use Rattle.std.specs.declared.cmp.Ordering.TheVariants.{Less, Equal, Greater}
-use Rattle.std.proofs.lemmas.Cmp.{ranked, eq_by_cmp_equiv, by_ranked}
-use Rattle.std.proofs.lemmas.Bool.{lt-ltb, eq-eqb, ne_eqb}
-use Rattle.std.proofs.lemmas.List.Elements.{Contains-get_or, All-contains, All-from_recursion}
-use Rattle.std.proofs.lemmas.List.Kept.{AllPairs-cons, Any-dedup, Contains-from_dedup, IsStrictlySortedBy-dedup}
+use Rattle.std.specs.Ordering.{eq_by_cmp, is_eq}
+use Rattle.std.specs.List.{dedup, cons_option, filter_map, AllPairs}
+use Rattle.std.specs.List.Sorted.{IsSorted, IsStrictlySortedBy}
+use Rattle.std.specs.declared.cmp.Ordering.TheVariants.{Less}
+use Rattle.std.proofs.lemmas.Cmp.{ranked, by_ranked}
+use Rattle.std.proofs.lemmas.Bool.{eq-eqb, ne_eqb}
+use Rattle.std.proofs.lemmas.List.Elements.{All-contains, All-from_recursion}
+use Rattle.std.proofs.lemmas.List.Kept.{AllPairs-cons, IsStrictlySortedBy-dedup}
 use Rattle.constraints.proofs.Members.{contains_none, contains_here, contains_next, contains_cases, AllPairs-nil, AllPairs-head, AllPairs-tail}
 use Rattle.constraints.proofs.Ranked.{All-from}
 
@@ -112,5 +112,5 @@ AllPairs-filter_map {X} {Y} f R S (x ∷ xs) step h = go (f x) refl (AllPairs-fi
     go (Some w) e ih =
         let P : Option Y → Type 0 = λ o. AllPairs S (cons_option o (filter_map f xs)) in
         subst P (sym e) (AllPairs-cons S w (filter_map f xs) (All-from (S w) (filter_map f xs) (λ b c.
-            let (z, m, q) = of_filter_map f xs b c in
-            step x z w b (contains_here x xs) (contains_next x xs z m) e q (All-contains (R x) xs z (AllPairs-head R x xs h) m))) ih)
+        let (z, m, q) = of_filter_map f xs b c in
+        step x z w b (contains_here x xs) (contains_next x xs z m) e q (All-contains (R x) xs z (AllPairs-head R x xs h) m))) ih)

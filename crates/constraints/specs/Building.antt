@@ -1,7 +1,7 @@
 -- What the parts of a problem are made of: the tags that a log names, its entries by positions, and rows of numbers.
-use Rattle.std.specs.Prelude.{◌≡◌, ℕ, ◌+◌, Bool, true, false, cond, not, ◌||◌, ◌&&◌, eqb, nat_lt, Option, Some, None, is_some, option_map, IfSome, Contains, List, [], ◌∷◌, ◌++◌, length, map, slice_index_or}
+use Rattle.std.specs.Prelude.{◌≡◌, ℕ, ◌+◌, Bool, false, cond, not, ◌&&◌, eqb, nat_lt, Option, Some, None, is_some, option_map, IfSome, Contains, List, [], ◌∷◌, ◌++◌, length, map, slice_index_or}
 use Rattle.std.specs.List.{flat_map, range_with_len, count_by, AllPairs}
-use Rattle.std.specs.Ordering.{nat_cmp, ordering_then}
+use Rattle.std.specs.Ordering.{nat_cmp, ordering_then, is_le}
 use Rattle.std.specs.declared.cmp.Ordering.{Ordering}
 use Rattle.std.specs.declared.cmp.Ordering.TheVariants.{Less}
 use Rattle.light_base.specs.declared.tag.Event.{Event}
@@ -14,7 +14,7 @@ use Rattle.constraints.specs.declared.placed.Placed.{Placed}
 use Rattle.constraints.specs.declared.reads.Read.{Read}
 use Rattle.constraints.specs.declared.reads.Key.{Key}
 use Rattle.replay_model.specs.Orders.{place}
-use Rattle.constraints.specs.Positions.{thread_numbers, event_list, event_at}
+use Rattle.constraints.specs.Positions.{thread_numbers, event_list}
 use Rattle.constraints.specs.Constraints.{sources_of, lasts_from, edges_to, edges_from}
 
 -- the tags that an entry of thread t names
@@ -24,14 +24,6 @@ mentioned_by t entry = entry.source ∷ Some (first_event t entry) ∷ Some (las
 -- the tags that a log names
 abbrev pub mentioned_tags : Log → List Tag
 mentioned_tags log = flat_map (λ t. flat_map (mentioned_by t) (thread_of log t).entries) (thread_numbers log) ++ log.lasts
-
--- whether the one event comes before the other: by thread, and then by number
-abbrev pub is_before : Event → Event → Bool
-is_before a b = nat_lt a.thread b.thread || (eqb a.thread b.thread && nat_lt a.step b.step)
-
--- the events go by thread, and then by number
-abbrev pub IsListed : List Event → Type 0
-IsListed events = AllPairs (λ (a b : Event). is_before a b ≡ true) events
 
 -- the number of events of the threads before thread t
 abbrev pub started_before : List Event → ℕ → ℕ
@@ -102,15 +94,25 @@ read_cmp a b = ordering_then (nat_cmp a.word b.word) (ordering_then (nat_cmp a.s
 abbrev pub key_cmp : Key → Key → Ordering
 key_cmp a b = ordering_then (nat_cmp a.word b.word) (nat_cmp a.source b.source)
 
--- the keys are those of the log's sources, each once and in order
+-- keys, each once and in order
+abbrev pub AreInOrder : List Key → Type 0
+AreInOrder keys = AllPairs (λ (a b : Key). key_cmp a b ≡ Less) keys
+
+-- reads, each once and in order
+abbrev pub AreReadsInOrder : List Read → Type 0
+AreReadsInOrder reads = AllPairs (λ (a b : Read). read_cmp a b ≡ Less) reads
+
+-- whether the read is of a key up to this one
+abbrev pub is_read_up_to : Key → Read → Bool
+is_read_up_to key read = is_le (key_cmp (key_of read) key)
+
+-- the keys are those of the log's sources
 pub record AreKeys (log : Log) (keys : List Key) : Type 0 where
-  pub order : AllPairs (λ (a b : Key). key_cmp a b ≡ Less) keys
   pub all : (word source : ℕ) → Contains (sources_of log word) source → Contains keys (record { word = word; source = source })
   pub only : (key : Key) → Contains keys key → Contains (sources_of log key.word) key.source
 
--- the reads are those of the lasts of the log's sources, each once and in order
+-- the reads are those of the lasts of the log's sources
 pub record AreReads (log : Log) (reads : List Read) : Type 0 where
-  pub order : AllPairs (λ (a b : Read). read_cmp a b ≡ Less) reads
   pub all : (word source last : ℕ) → Contains (sources_of log word) source → Contains (lasts_from log word source) last →
       Contains reads (record { word = word; source = source; last = last })
   pub only : (read : Read) → Contains reads read → Contains (sources_of log read.word) read.source × Contains (lasts_from log read.word read.source) read.last

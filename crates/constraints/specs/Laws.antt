@@ -1,5 +1,5 @@
 -- What the constraints of a log have to do with the orders that respect it.
-use Rattle.std.specs.Prelude.{◌≡◌, ◌≢◌, ℕ, ◌<◌, ◌↔◌, true, false, List, length, map, slice_index, slice_index_or, Contains}
+use Rattle.std.specs.Prelude.{◌≡◌, ◌≢◌, ℕ, ◌+◌, ◌^◌, ◌<◌, ◌≤◌, ◌↔◌, true, false, List, length, map, sum, slice_index, slice_index_or, Contains}
 use Rattle.std.specs.List.{All, AllPairs}
 use Rattle.plain_search.specs.declared.Edge.{Edge}
 use Rattle.plain_search.specs.Edges.{Holds}
@@ -9,8 +9,8 @@ use Rattle.replay_model.specs.Logs.{Log}
 use Rattle.replay_model.specs.Events.{IsEvent}
 use Rattle.replay_model.specs.WellFormed.{IsWellFormed}
 use Rattle.replay_model.specs.Orders.{place, Respects}
-use Rattle.constraints.specs.Positions.{event_list, event_at, position_of}
-use Rattle.constraints.specs.Constraints.{sources_of, lasts_from, pair_of, pairs_of, problem_of_log, impossible}
+use Rattle.constraints.specs.Positions.{event_list, counts_of, event_at, position_of, IsListed}
+use Rattle.constraints.specs.Constraints.{sources_of, lasts_from, pair_of, pairs_of, problem_of_log, impossible, group_of}
 
 -- the order has each event of the log once, and nothing else
 pub record IsOrdering (log : Log) (order : List Event) : Type 0 where
@@ -54,6 +54,7 @@ LinesAreOrders = (log : Log) (edges : List Edge) (line : List ℕ) → IsWellFor
 
 -- the list of events holds those of the log, by thread and then by number, each at its position
 pub record Lists (log : Log) : Type 0 where
+  pub order : IsListed (event_list log)
   pub all : (e : Event) → IsEvent log e → Contains (event_list log) e
   pub only : (e : Event) → Contains (event_list log) e → IsEvent log e
   pub once : (i j : ℕ) (d : Event) → i < j → j < length (event_list log) → slice_index_or (event_list log) i d ≢ slice_index_or (event_list log) j d
@@ -89,3 +90,30 @@ abbrev pub SidesExclude : Type 0
 SidesExclude = (log : Log) (word s t : ℕ) (rank : ℕ → ℕ) → IsWellFormed log → Holds rank (problem_of_log log).edges →
     Contains (sources_of log word) s → Contains (sources_of log word) t → s ≢ t →
     (Holds rank (pair_of log word s t).lesser → rank s < rank t) × (Holds rank (pair_of log word s t).greater → rank t < rank s)
+
+-- where the base edges hold, a source ranks below each of its lasts
+abbrev pub SourcesAreRead : Type 0
+SourcesAreRead = (log : Log) (word s last : ℕ) (rank : ℕ → ℕ) → IsWellFormed log → Holds rank (problem_of_log log).edges →
+    Contains (sources_of log word) s → Contains (lasts_from log word s) last → rank s < rank last
+
+-- the numbers of a log's events, of all threads and of each, and of a word's sources
+pub record IsSmall (log : Log) : Type 0 where
+  pub few : length (event_list log) < 2 ^ 32
+  pub counted : sum (counts_of log) ≡ length (event_list log)
+  pub threads : length (counts_of log) ≡ length log.threads
+  pub sources : (word : ℕ) → length (sources_of log word) ≤ length (event_list log)
+
+abbrev pub LogsAreSmall : Type 0
+LogsAreSmall = (log : Log) → IsWellFormed log → IsSmall log
+
+-- the sources of a word by a thread are a group of neighbours, and the groups follow one another
+pub record IsGrouped (log : Log) (word : ℕ) : Type 0 where
+  pub first : (group_of log word 0).0 ≡ 0
+  pub next : (t : ℕ) → (group_of log word t).1 ≡ (group_of log word (t + 1)).0
+  pub rising : (t : ℕ) → (group_of log word t).0 ≤ (group_of log word t).1
+  pub all : (t : ℕ) → length log.threads ≤ t + 1 → (group_of log word t).1 ≡ length (sources_of log word)
+  pub thread : (t i : ℕ) → i < length (sources_of log word) →
+      ((group_of log word t).0 ≤ i × i < (group_of log word t).1) ↔ ((event_at log (slice_index (sources_of log word) i)).thread ≡ t)
+
+abbrev pub SourcesAreGrouped : Type 0
+SourcesAreGrouped = (log : Log) (word : ℕ) → IsWellFormed log → IsGrouped log word

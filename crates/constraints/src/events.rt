@@ -5,8 +5,8 @@ ghost use Rattle.light_base.specs.Tags.{HasTag};
 ghost use Rattle.replay_model.specs.Logs.{first_event, last_event};
 ghost use Rattle.replay_model.specs.Orders.{place};
 ghost use Rattle.replay_model.specs.WellFormed.{IsWellFormed};
-ghost use Rattle.constraints.specs.Positions.{event_list};
-ghost use Rattle.constraints.specs.Building.{mentioned_by, mentioned_tags, is_before, IsListed, started_before, starts_of};
+ghost use Rattle.constraints.specs.Positions.{event_list, is_before, IsListed};
+ghost use Rattle.constraints.specs.Building.{mentioned_by, mentioned_tags, started_before, starts_of};
 
 use dep_log::{Entry, RunLog};
 use light_base::{Event, Memory, Tag};

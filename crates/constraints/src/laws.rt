@@ -1,7 +1,7 @@
 //! What the constraints of a log have to do with the orders that respect it. Each function here does nothing: its contract is
 //! the law, which a caller has after the call.
 ghost use Rattle.constraints.specs.Laws.{RespectsIsSolving, RankingsAreOrders, SearchFindsOrders, LinesAreOrders};
-ghost use Rattle.constraints.specs.Laws.{EventsAreListed, SourcesRise, EdgesAreWithin, SidesExclude};
+ghost use Rattle.constraints.specs.Laws.{EventsAreListed, SourcesRise, EdgesAreWithin, SidesExclude, SourcesAreRead, LogsAreSmall, SourcesAreGrouped};
 
 /// An order respects the log exactly where the base edges and one side of each rival pair hold in it; some order respects the
 /// log exactly where some ranking solves its problem, that is, where the plain search finds a choice; and positions in a row, in
@@ -20,7 +20,15 @@ pub fn position_law()
     ensures within { EdgesAreWithin }
 {}
 
-/// Both sides of a rival pair never hold: where the one does, its source ranks below the other one.
+/// Both sides of a rival pair never hold: where the one does, its source ranks below the other one. And a source ranks below
+/// each of its lasts.
 pub fn side_law()
-    ensures { SidesExclude }
+    ensures exclude { SidesExclude }
+    ensures read { SourcesAreRead }
+{}
+
+/// How many events and sources there are, and the groups of a word's sources, one for each thread.
+pub fn size_law()
+    ensures small { LogsAreSmall }
+    ensures groups { SourcesAreGrouped }
 {}

@@ -2,8 +2,8 @@
 ghost use Rattle.std.specs.Prelude.{◌≡◌, ◌<◌, ◌^◌, ◌++◌, length, map, All, IfOk, OnOk, IfSome, Contains, option_map};
 ghost use Rattle.replay_model.specs.Logs.{first_event, last_event};
 ghost use Rattle.replay_model.specs.Orders.{place};
-ghost use Rattle.constraints.specs.Positions.{event_list};
-ghost use Rattle.constraints.specs.Building.{IsListed, HasEvents, placed_in, placed_entries, placed_finals};
+ghost use Rattle.constraints.specs.Positions.{event_list, IsListed};
+ghost use Rattle.constraints.specs.Building.{HasEvents, placed_in, placed_entries, placed_finals};
 
 use crate::events::position;
 use dep_log::{Entry, RunLog};
@@ -11,7 +11,7 @@ use light_base::{Event, Memory, Tag};
 use std::alloc::Global;
 
 /// An entry by positions: its word, its source, where that is not initial, its first and its last.
-#[derive(Clone, Copy)]
+#[derive(Clone, Copy, Debug, PartialEq, Eq)]
 pub struct Placed {
     pub word: u16,
     pub source: Option<u32>,
@@ -74,11 +74,7 @@ fn place_thread(
 }
 
 /// The log's entries by positions, thread after thread.
-pub fn place_entries(
-    alloc: Global,
-    log: &RunLog,
-    events: &[Event],
-) -> Result<Vec<Placed>, Memory>
+pub fn place_entries(alloc: Global, log: &RunLog, events: &[Event]) -> Result<Vec<Placed>, Memory>
     requires { events.now ≡ event_list log.now }
     ensures { IfOk result (λ placed. placed.items ≡ placed_entries log.now) }
 {

@@ -10,7 +10,7 @@ use std::marker::Model;
 pub struct Rows {
     items: Vec<u32>,
     // Where each row begins, and at the end where the last one ends.
-    starts: Vec<u32>,
+    starts: Vec<usize>,
 }
 
 impl Model for Rows {
@@ -25,19 +25,17 @@ impl Model for Rows {
 }
 
 // The items from the start of row i up to the next start.
-fn part<'a>(items: &'a [u32], starts: &[u32], i: usize) -> &'a [u32]
+fn part<'a>(items: &'a [u32], starts: &[usize], i: usize) -> &'a [u32]
     requires starts { AreStarts items.now starts.now }
     requires row { i + 1 < length starts.now }
     ensures { result.now ≡ cut items.now (slice_index starts.now i) (slice_index starts.now (i + 1)) }
 {
-    let from = starts[i] as usize;
-    let to = starts[i + 1] as usize;
-    &items[from..to]
+    &items[starts[i]..starts[i + 1]]
 }
 
 impl Rows {
     /// The rows of the items that begin at these starts. The last start ends the last row.
-    pub fn new(items: Vec<u32>, starts: Vec<u32>) -> Rows
+    pub fn new(items: Vec<u32>, starts: Vec<usize>) -> Rows
         requires { AreStarts items.items starts.items }
         ensures { result ≡ rows_of items.items starts.items }
     {
@@ -59,6 +57,6 @@ impl Rows {
         requires { i < length self.now }
         ensures { result ≡ sum_by length (take i self.now) }
     {
-        self.starts[i] as usize
+        self.starts[i]
     }
 }

@@ -1,5 +1,5 @@
-use Rattle.std.proofs.Common.{◌≡◌, eqb, List, sym, ◌∙◌, ap, subst}
-use Rattle.std.specs.List.{dedup, filter_map}
+use Rattle.std.proofs.Common.{◌≡◌, eqb, List, ◌∙◌, ap, subst}
+use Rattle.std.specs.List.{filter_map}
 use Rattle.std.specs.List.Sorted.{IsPermutation}
 use Rattle.std.proofs.lemmas.List.Filters.{dedup_is}
 use Rattle.std.proofs.lemmas.Result.{IfOk-weaker}

@@ -1,11 +1,7 @@
-use Rattle.std.proofs.Common.{◌≡◌, ◌++◌, List, sym, ◌∙◌, ap, subst}
 use Rattle.std.specs.Prelude.{All}
-use Rattle.std.specs.List.{flat_map, range_with_len}
 use Rattle.light_base.specs.Tags.{HasTag}
-use Rattle.light_base.specs.declared.tag.Tag.{Tag}
 use Rattle.replay_model.specs.declared.Entry.{Entry}
-use Rattle.replay_model.specs.Logs.{thread_of, first_event, last_event}
-use Rattle.constraints.specs.Building.{mentioned_by}
+use Rattle.replay_model.specs.Logs.{first_event, last_event}
 use Rattle.constraints.proofs.Naming.{mention_more, firsts_tagged, lasts_tagged, item_thread, of_thread_entries}
 use Rattle.constraints.proofs.events.mentioned.Goals as goal
 

@@ -1,7 +1,7 @@
 use Rattle.std.proofs.Common.{rules}
 use Rattle.std.proofs.lemmas.List.Sorted.{IsPartitionPoint-from_clause}
 use Rattle.replay_model.specs.Steps.{Event}
-use Rattle.constraints.specs.Building.{is_before}
+use Rattle.constraints.specs.Positions.{is_before}
 use Rattle.constraints.proofs.Listing.{listed-partitioned, point-place}
 use Rattle.constraints.proofs.events.position.Goals as goal
 
