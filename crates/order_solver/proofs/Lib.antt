@@ -9,3 +9,4 @@ pub mod Counting
 pub mod Prefixes
 pub mod OfLogs
 pub mod Lines
+pub mod Guessed

@@ -5,3 +5,4 @@ pub mod Begun
 pub mod Frames
 pub mod Findings
 pub mod Logs
+pub mod Readings

@@ -4,6 +4,7 @@
 mod begin;
 mod cursor;
 mod finding;
+mod guessing;
 mod pairs;
 mod rivals;
 mod rows;
