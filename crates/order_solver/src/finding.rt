@@ -4,6 +4,7 @@ ghost use Rattle.order_solver.specs.Rivals.{AreRivals};
 ghost use Rattle.order_solver.specs.Findings.{Finds};
 
 use crate::begin::begin;
+use crate::guessing::guess_line;
 use crate::rivals::Rivals;
 use crate::search::{Ending, explore};
 use light_base::Memory;
@@ -20,9 +21,8 @@ pub enum Finding {
     Spent,
 }
 
-/// Searches a row of all nodes along which the edges rise, and of each two sources of a word one comes first with its lasts.
-/// `Spent` comes only where the plain search meets more dead ends than the budget.
-pub fn find_line<R: Rivals>(alloc: Global, rivals: &R, budget: u32) -> Result<Finding, Memory>
+// The exact search.
+fn search_line<R: Rivals>(alloc: Global, rivals: &R, budget: u32) -> Result<Finding, Memory>
     requires { AreRivals (R.rivalry rivals.now) }
     ensures { Finds (R.rivalry rivals.now) budget result }
 {
@@ -38,5 +38,18 @@ pub fn find_line<R: Rivals>(alloc: Global, rivals: &R, budget: u32) -> Result<Fi
         }
         Ending::None => Ok(Finding::None),
         Ending::Spent => Ok(Finding::Spent),
+    }
+}
+
+/// Finds a row of all nodes along which the edges rise, and of each two sources of a word one comes first with its lasts. A
+/// guess that the judge lets stand is one; where there is none, or no memory for it, an exact search decides. `Spent` comes
+/// only where the plain search meets more dead ends than the budget.
+pub fn find_line<R: Rivals>(alloc: Global, rivals: &R, budget: u32) -> Result<Finding, Memory>
+    requires { AreRivals (R.rivalry rivals.now) }
+    ensures { Finds (R.rivalry rivals.now) budget result }
+{
+    match guess_line(alloc, rivals) {
+        Ok(Some(line)) => Ok(Finding::Line(line)),
+        _ => search_line(alloc, rivals, budget),
     }
 }

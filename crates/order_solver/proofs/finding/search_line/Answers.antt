@@ -1,5 +1,5 @@
 use Rattle.order_solver.proofs.Lines.{explored-found, found-line}
-use Rattle.order_solver.proofs.finding.find_line.Goals as goal
+use Rattle.order_solver.proofs.finding.search_line.Goals as goal
 
 pub returns-in-Found : goal.returns-in-Found
 returns-in-Found g c =
