@@ -2,6 +2,7 @@
 ghost use Rattle.std.specs.Prelude.{◌≡◌, ◌+◌, ◌*◌, ◌≤◌, ◌++◌, All, IfOk, OnOk, length};
 ghost use Rattle.std.specs.List.{flat_map};
 ghost use Rattle.std.specs.Int.{w32, to_be_bytes};
+ghost use Rattle.log_file.specs.declared.version.Version.TheVariants.{Two};
 ghost use Rattle.log_file.specs.Spelling.{address_of_end, code_of_end, entries_bytes, entry_count, entry_bytes, head_bytes, header_bytes, limits_bytes, spelling, tag_bytes, taken_bytes, taken_count, text_len};
 
 use dep_log::{Entry, RunLog, ThreadLog};
@@ -67,7 +68,7 @@ fn taken_count(threads: &[ThreadLog]) -> usize
 
 // Appends what stands before the headers.
 fn put_head(out: &mut Vec<u8>, log: &RunLog) -> Result<(), Memory>
-    ensures { OnOk result (out.new.items ≡ out.old.items ++ head_bytes log.now) }
+    ensures { OnOk result (out.new.items ≡ out.old.items ++ head_bytes Two log.now) }
 {
     out.extend_from_slice(&MAGIC)?;
     out.push(log.threads().len() as u8)?;
@@ -88,7 +89,7 @@ fn put_limits(out: &mut Vec<u8>, limits: &Limits) -> Result<(), Memory>
 fn put_headers(out: &mut Vec<u8>, threads: &[ThreadLog]) -> Result<(), Memory>
     requires entries { All (λ thread. length thread.entries ≤ 16384) threads.now }
     requires taken { All (λ thread. length thread.taken ≤ 65536) threads.now }
-    ensures { OnOk result (out.new.items ≡ out.old.items ++ flat_map header_bytes threads.now) }
+    ensures { OnOk result (out.new.items ≡ out.old.items ++ flat_map (header_bytes Two) threads.now) }
 {
     for thread in threads {
         put_header(out, thread)?;
@@ -99,7 +100,7 @@ fn put_headers(out: &mut Vec<u8>, threads: &[ThreadLog]) -> Result<(), Memory>
 fn put_header(out: &mut Vec<u8>, thread: &ThreadLog) -> Result<(), Memory>
     requires entries { length thread.now.entries ≤ 16384 }
     requires taken { length thread.now.taken ≤ 65536 }
-    ensures { OnOk result (out.new.items ≡ out.old.items ++ header_bytes thread.now) }
+    ensures { OnOk result (out.new.items ≡ out.old.items ++ header_bytes Two thread.now) }
 {
     out.push(code_of(thread.end()))?;
     put_u32(out, address_of(thread.end()))?;

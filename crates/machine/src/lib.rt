@@ -21,4 +21,5 @@ pub use crate::input_reading::{inputs_law, read_inputs};
 pub use crate::inputs::Inputs;
 pub use crate::laws::{input_law, machine_law};
 pub use crate::program::{Instr, Limits, OPS, Op, Program};
+pub use crate::reading::numbers_of;
 pub use replay_model::{Access, End, Want};

@@ -6,8 +6,8 @@ ghost use Rattle.machine.specs.Reading.{numbers_at};
 use light_base::u32_at;
 use std::alloc::{AllocError, Global};
 
-// So many numbers of 32 bits.
-pub(crate) fn numbers_of(alloc: Global, count: usize, bytes: &[u8]) -> Result<Vec<u32>, AllocError>
+/// So many big-endian numbers of 32 bits, which are there.
+pub fn numbers_of(alloc: Global, count: usize, bytes: &[u8]) -> Result<Vec<u32>, AllocError>
     requires { 4 * count ≤ length bytes.now }
     ensures { IfOk result (λ numbers. numbers.items ≡ numbers_at w32 count bytes.now) }
 {
