@@ -87,17 +87,21 @@ pub record IsSmall (h : Header) : Type 0 where
   pub entries : h.entries ≤ 16384
   pub taken : h.taken ≤ 65536
 
--- the header at a place, of a thread that ended so
-abbrev pub header_of : Version → List ℕ → ℕ → End → Header
-header_of version bytes at end =
-    record { end = end; steps = number_at bytes (at + 5); instr = number_at bytes (at + 9); entries = number_at bytes (at + 13); taken = taken_at version bytes at }
+-- the counts of the header at a place
+abbrev pub counts_at : Version → List ℕ → ℕ → Header
+counts_at version bytes at =
+    record { end = Halted; steps = number_at bytes (at + 5); instr = number_at bytes (at + 9); entries = number_at bytes (at + 13); taken = taken_at version bytes at }
 
-unfoldable pub header_at : Version → Head → List ℕ → ℕ → Result Header LogFault
-header_at version head bytes at =
-    if is_over head.limits (header_of version bytes at Halted) then Err (fault kind.Counts at)
+-- the header at a place that has these counts, and an end with this number and address
+unfoldable pub header_of : Version → Head → ℕ → ℕ → ℕ → Header → Result Header LogFault
+header_of version head at code address counts =
+    if is_over head.limits counts then Err (fault kind.Counts at)
     else do
-      end ← ok_or (end_in version head.words (slice_index bytes at) (number_at bytes (at + 1))) (fault kind.EndCode at)
-      Ok (header_of version bytes at end)
+      end ← ok_or (end_in version head.words code address) (fault kind.EndCode at)
+      Ok (record counts { end = end })
+
+abbrev pub header_at : Version → Head → List ℕ → ℕ → Result Header LogFault
+header_at version head bytes at = header_of version head at (slice_index bytes at) (number_at bytes (at + 1)) (counts_at version bytes at)
 
 -- the header behind these, and those of all threads
 abbrev pub next_header : Version → Head → List ℕ → List Header → Result Header LogFault
@@ -141,20 +145,20 @@ newest_first before = (slice_index_or before (length before - 1) no_entry).first
 abbrev pub ends_late : ℕ → ℕ → Entry → Bool
 ends_late word step entry = nat_eq word entry.word && nat_le step entry.last
 
--- the entry at a place, of a thread that took `own` steps, after these of its entries
-unfoldable pub entry_at : ℕ → List ℕ → ℕ → List ℕ → ℕ → List Entry → Result Entry LogFault
-entry_at words steps own bytes at before =
-    let word = half_at bytes at in
-    let first = number_at bytes (at + 6) in
-    let last = number_at bytes (at + 10) in
+-- the entry at a place that has this word, tag's number, first and last step, of a thread that took `own` steps, after these of its entries
+unfoldable pub entry_of : ℕ → List ℕ → ℕ → ℕ → List Entry → ℕ → ℕ → ℕ → ℕ → Result Entry LogFault
+entry_of words steps own at before word bits first last =
     if nat_le first (newest_first before) then Err (fault kind.Order at)
     else if nat_lt last first || nat_lt own last then Err (fault kind.Range at)
     else do
-      source ← ok_or (tag_in steps (number_at bytes (at + 2))) (fault kind.Source at)
+      source ← ok_or (tag_in steps bits) (fault kind.Source at)
       if nat_le words word then Err (fault kind.Word at)
         else if list_any (is_entry_for word source) before then Err (fault kind.Twice at)
         else if list_any (ends_late word first) before then Err (fault kind.Overlap at)
         else Ok (record { word = word; source = source; first = first; last = last })
+
+abbrev pub entry_at : ℕ → List ℕ → ℕ → List ℕ → ℕ → List Entry → Result Entry LogFault
+entry_at words steps own bytes at before = entry_of words steps own at before (half_at bytes at) (number_at bytes (at + 2)) (number_at bytes (at + 6)) (number_at bytes (at + 10))
 
 -- the entry behind these of a thread, whose entries begin at a place, and so many of them
 abbrev pub next_entry : ℕ → List ℕ → ℕ → List ℕ → ℕ → List Entry → Result Entry LogFault

@@ -148,7 +148,7 @@ fn is_over(limits: &Limits, header: &Header) -> bool
 }
 
 // The header at a place.
-#[tactic(auto, unfolding(crate::specs::LogReading::header_at))]
+#[tactic(auto, unfolding(crate::specs::LogReading::header_of))]
 pub(crate) fn header_at(
     version: Version,
     head: &Head,

@@ -67,7 +67,7 @@ fn lasts_of(
 }
 
 // The entry at a place, of a thread that took `own` steps, after those that were seen of it.
-#[tactic(auto, unfolding(crate::specs::LogReading::entry_at))]
+#[tactic(auto, unfolding(crate::specs::LogReading::entry_of))]
 fn entry_at(
     steps: &[u32],
     own: u32,
