@@ -1,10 +1,9 @@
 -- What stands behind the headers of a log, part by part.
-use Rattle.std.proofs.Common.{◌≡◌, ℕ, ◌<◌, ◌≤◌, List, length, ltb, cond, Result, Ok, Err, refl, sym, ap, ◌∙◌}
+use Rattle.std.proofs.Common.{◌≡◌, ℕ, ◌<◌, ◌≤◌, List, length, Result, Ok, Err, refl}
 use Rattle.std.specs.Prelude.{slice_range}
 use Rattle.std.proofs.lemmas.Bool.{lt-ltb, le-ltb}
 use Rattle.light_base.specs.declared.tag.Tag.{Tag}
 use Rattle.replay_model.specs.Logs.{ThreadLog, Log}
-use Rattle.machine.specs.Reading.{◌>>=◌}
 use Rattle.log_file.specs.Versions.{Version}
 use Rattle.log_file.specs.LogFaults.{LogFault, fault}
 use Rattle.log_file.specs.declared.log_fault.LogKind.TheVariants as kind

@@ -1,5 +1,5 @@
 -- Entries: what is read passes the tests and stands there, and what passes the tests is read where it stands.
-use Rattle.std.proofs.Common.{◌≡◌, ℕ, ◌+◌, ◌^◌, ◌<◌, ◌≤◌, Bool, true, false, cond, ltb, leb, ◌||◌, List, [], ◌∷◌, ◌++◌, length, drop, Option, Some, None, Result, Ok, Err, refl, sym, ap, subst, ◌∙◌, arith}
+use Rattle.std.proofs.Common.{◌≡◌, ℕ, ◌+◌, ◌^◌, ◌<◌, ◌≤◌, Bool, true, false, cond, ltb, leb, ◌||◌, List, ◌++◌, length, drop, Option, Some, None, Result, Ok, Err, refl, sym, ap, subst, ◌∙◌, arith}
 use Rattle.std.specs.Option.{ok_or}
 use Rattle.std.specs.List.{list_any}
 use Rattle.std.specs.Int.{w16, w32, to_be_bytes}
@@ -9,7 +9,6 @@ use Rattle.light_base.specs.Tags.{bits_of}
 use Rattle.light_base.specs.Numbers.{IsBytes}
 use Rattle.replay_model.specs.declared.Entry.{Entry}
 use Rattle.replay_model.specs.MoreReads.{is_entry_for}
-use Rattle.machine.specs.Reading.{◌>>=◌}
 use Rattle.log_file.specs.LogFaults.{LogFault, fault}
 use Rattle.log_file.specs.declared.log_fault.LogKind.TheVariants as kind
 use Rattle.log_file.specs.Spelling.{entry_bytes}
@@ -72,7 +71,7 @@ module _ (words : ℕ) (steps : List ℕ) (own at : ℕ) (before : List Entry) w
           word = leb-false words word in_words.0;
           once = once.0;
           apart = apart.0;
-        }
+        },
       )
 
   entry_again : (e : Entry) → IsNext words steps own before e → entry_of words steps own at before e.word (bits_of e.source) e.first e.last ≡ Ok e

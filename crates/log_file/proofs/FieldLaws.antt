@@ -1,9 +1,9 @@
 -- Numbers at places: what is read stands there, and what stands there is read.
-use Rattle.std.proofs.Common.{◌≡◌, ℕ, ◌+◌, ◌-◌, ◌^◌, ◌<◌, ◌≤◌, List, [], ◌∷◌, ◌++◌, length, take, drop, get_or, refl, sym, ap, ◌∙◌, append_assoc, arith}
-use Rattle.std.specs.Int.{Width, w16, w32, byte_len, from_be_bytes, to_be_bytes}
-use Rattle.std.proofs.lemmas.List.{take_at, drop_at, drop-drop, drop_more, length-drop, get_or-drop}
+use Rattle.std.proofs.Common.{◌≡◌, ℕ, ◌+◌, ◌-◌, ◌^◌, ◌<◌, ◌≤◌, List, ◌∷◌, ◌++◌, length, take, drop, get_or, refl, sym, ap, ◌∙◌, append_assoc, arith}
+use Rattle.std.specs.Int.{w16, w32, from_be_bytes, to_be_bytes}
+use Rattle.std.proofs.lemmas.List.{take_at, drop_at, drop-drop, length-drop, get_or-drop}
 use Rattle.light_base.specs.Numbers.{IsBytes}
-use Rattle.machine.proofs.ImageNumbers.{IsWide, wide16, wide32, front_number, IsBytes-drop, IsBytes-take}
+use Rattle.machine.proofs.ImageNumbers.{wide16, wide32, front_number, IsBytes-drop, IsBytes-take}
 use Rattle.log_file.specs.LogReading.{half_at, number_at}
 
 -- a field, and the one behind it

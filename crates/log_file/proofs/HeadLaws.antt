@@ -1,21 +1,19 @@
 -- The head of a log: what is read is in range and stands in front, and what is in range is read where it stands.
-use Rattle.std.proofs.Common.{◌≡◌, ℕ, ◌+◌, ◌-◌, ◌^◌, ◌<◌, ◌≤◌, Bool, true, false, cond, eqb, ltb, not, ◌&&◌, List, [], ◌∷◌, ◌++◌, length, take, drop, get_or, Result, Ok, Err, refl, sym, ap, subst, ◌∙◌, append_assoc, arith}
+use Rattle.std.proofs.Common.{◌≡◌, ℕ, ◌≤◌, true, eqb, ltb, not, ◌&&◌, List, [], ◌∷◌, ◌++◌, length, take, drop, Ok, refl, sym, ap, subst, ◌∙◌, arith}
 use Rattle.std.specs.Prelude.{slice_index, slice_range}
 use Rattle.std.specs.List.{starts_with}
 use Rattle.std.specs.Int.{w16, w32, to_be_bytes}
 use Rattle.std.proofs.lemmas.Bool.{and_parts, and_from, not-false, ltb-false, le-ltb}
 use Rattle.std.proofs.lemmas.Slice.Eq.{bytes_eq-Decides}
-use Rattle.std.proofs.lemmas.List.{take-append-drop, take_at, drop_at, drop-drop, drop_more, length-append, length-take-le, length-drop}
+use Rattle.std.proofs.lemmas.List.{take-append-drop, take_at, drop-drop, drop_more, length-append}
 use Rattle.light_base.specs.Numbers.{IsBytes}
 use Rattle.replay_model.specs.Logs.{Limits, Log}
 use Rattle.replay_model.specs.WellFormed.{IsInRange}
-use Rattle.machine.specs.Programs.{AreLimits}
 use Rattle.machine.specs.Faults.{are_counts, is_count}
-use Rattle.machine.specs.Reading.{◌>>=◌}
 use Rattle.machine.proofs.Rules.{count_holds, is_count_from}
 use Rattle.log_file.specs.Versions.{Version, magic_of}
 use Rattle.log_file.specs.declared.version.Version.TheVariants.{One, Two}
-use Rattle.log_file.specs.LogFaults.{LogFault, fault}
+use Rattle.log_file.specs.LogFaults.{fault}
 use Rattle.log_file.specs.declared.log_fault.LogKind.TheVariants as kind
 use Rattle.log_file.specs.Spelling.{limits_bytes, head_bytes}
 use Rattle.log_file.specs.LogReading.{Head, reaches, half_at, number_at, limits_in, are_limits, head_in}

@@ -1,5 +1,5 @@
 -- Tests of the head of a log.
-use Rattle.std.proofs.Common.{◌≡◌, ℕ, ◌^◌, ◌<◌, ◌≤◌, Bool, true, false, cond, leb, ltb, ◌&&◌, Option, Some, None, refl, sym, ◌∙◌, ap, arith, inl, inr, ◌⊎◌}
+use Rattle.std.proofs.Common.{◌≡◌, ◌^◌, true, false, cond, leb, ltb, ◌&&◌, Option, Some, None, sym, ◌∙◌, ap, arith, inl, inr, ◌⊎◌}
 use Rattle.std.specs.Option.{SomeIff}
 use Rattle.std.proofs.lemmas.Bool.{and_from, and_parts, cases_Bool, ltb-true, leb-true, lt-ltb, le-leb, cond-true, cond-false}
 use Rattle.replay_model.specs.Logs.{Limits}

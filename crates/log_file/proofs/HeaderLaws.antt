@@ -1,19 +1,18 @@
 -- Headers: what is read keeps the limits and stands there, and what keeps them is read where it stands.
-use Rattle.std.proofs.Common.{◌≡◌, ◌≢◌, ℕ, ◌+◌, ◌^◌, ◌<◌, ◌≤◌, Bool, true, false, cond, eqb, ltb, ◌||◌, List, [], ◌∷◌, ◌++◌, length, drop, get_or, Option, Some, None, Result, Ok, Err, refl, sym, ap, subst, ◌∙◌, arith, inl, inr, ◌⊎◌}
+use Rattle.std.proofs.Common.{◌≡◌, ℕ, ◌+◌, ◌^◌, ◌<◌, ◌≤◌, Bool, true, false, cond, eqb, ltb, ◌||◌, List, [], ◌∷◌, ◌++◌, length, drop, Option, Some, None, Ok, refl, sym, ap, subst, ◌∙◌, arith, inl, inr, ◌⊎◌}
 use Rattle.std.specs.Prelude.{slice_index}
 use Rattle.std.specs.Option.{ok_or}
 use Rattle.std.specs.Int.{w32, to_be_bytes}
-use Rattle.std.proofs.lemmas.Bool.{cases_Bool, or_parts, ltb-false, le-ltb, eqb-true, cond-false}
+use Rattle.std.proofs.lemmas.Bool.{or_parts, ltb-false, le-ltb, eqb-true, cond-false}
 use Rattle.std.proofs.lemmas.List.{append-nil, drop_more}
 use Rattle.light_base.specs.Numbers.{IsBytes}
 use Rattle.replay_model.specs.declared.End.{End}
 use Rattle.replay_model.specs.declared.End.TheVariants.{Halted, InstrSpent, BadAddress, StepsSpent, EntriesFull, OutputFull, InputEmpty}
 use Rattle.replay_model.specs.Logs.{Limits}
 use Rattle.replay_model.specs.WellFormed.{IsPossibleEnd}
-use Rattle.machine.specs.Reading.{◌>>=◌}
 use Rattle.log_file.specs.Versions.{Version, header_len, last_end}
 use Rattle.log_file.specs.declared.version.Version.TheVariants.{One, Two}
-use Rattle.log_file.specs.LogFaults.{LogFault, fault}
+use Rattle.log_file.specs.LogFaults.{fault}
 use Rattle.log_file.specs.declared.log_fault.LogKind.TheVariants as kind
 use Rattle.log_file.specs.Spelling.{code_of_end, address_of_end}
 use Rattle.log_file.specs.LogReading.{Head, Header, number_at, plain_end, end_in, taken_at, is_over, counts_at, header_of, header_at}
@@ -154,7 +153,7 @@ header_take version head at code address counts h counted e =
     let P : Header → Type 0 = λ x. IsHeaderOf x code address counts × IsWithin version head.words head.limits x in
     subst P same (
       record { number = is.number; place = is.place; steps_are = refl; instr_are = refl; entries_are = refl; taken_are = refl },
-      record { steps = within.0; instr = within.1; entries = within.2; taken = within.3; end = is.possible; known = is.known; counted = counted }
+      record { steps = within.0; instr = within.1; entries = within.2; taken = within.3; end = is.possible; known = is.known; counted = counted },
     )
 
 header_again : (version : Version) (head : Head) (at : ℕ) (h : Header) → IsWithin version head.words head.limits h →

@@ -1,37 +1,32 @@
 -- The laws of logs as bytes: what is read is well formed and spelled so, and what is spelled so is read.
-use Rattle.std.proofs.Common.{◌≡◌, ◌≢◌, ℕ, zero, suc, ◌+◌, ◌-◌, ◌*◌, ◌^◌, ◌<◌, ◌≤◌, cond, ltb, List, [], ◌∷◌, ◌++◌, length, take, drop, get_or, map, All, Option, Some, None, Result, Ok, Err, refl, sym, ap, subst, ◌∙◌, append_assoc, arith, length-append}
-use Rattle.std.specs.Prelude.{slice_range, slice_index_or}
-use Rattle.std.specs.List.{flat_map, sum_by}
-use Rattle.std.specs.Int.{w32, to_be_bytes}
-use Rattle.std.proofs.lemmas.Bool.{ltb-false, lt-ltb, le-ltb}
-use Rattle.std.proofs.lemmas.List.{length-drop, drop-drop, drop_all, append-nil, length-map, get_or-map, take_more, length-take-le, get_or_default, nil_from_length}
-use Rattle.std.proofs.lemmas.List.Elements.{All-from_get_or, All-get_or}
+use Rattle.std.proofs.Common.{◌≡◌, ◌≢◌, ℕ, ◌^◌, ◌<◌, ◌≤◌, ltb, List, [], ◌∷◌, ◌++◌, length, take, drop, get_or, map, All, None, Ok, refl, sym, ap, subst, ◌∙◌, arith}
+use Rattle.std.specs.Prelude.{slice_range}
+use Rattle.std.specs.List.{flat_map}
+use Rattle.std.proofs.lemmas.Bool.{ltb-false}
+use Rattle.std.proofs.lemmas.List.{length-drop, drop_all, append-nil, length-map, length-take-le, get_or_default, nil_from_length}
 use Rattle.std.proofs.lemmas.List.Concat.{flat_map-cons}
 use Rattle.std.proofs.lemmas.Simd.{map-map}
-use Rattle.light_base.specs.declared.tag.Tag.{Tag}
 use Rattle.light_base.specs.Numbers.{IsBytes}
 use Rattle.light_base.proofs.Numbers.{IsBytes-slice_range}
-use Rattle.replay_model.specs.declared.End.{End}
 use Rattle.replay_model.specs.declared.End.TheVariants.{InputEmpty}
-use Rattle.replay_model.specs.Logs.{Limits, ThreadLog, Log, no_thread, thread_of, last_tag}
-use Rattle.replay_model.specs.WellFormed.{IsInRange, IsPossibleEnd, IsTagOf, IsThreadOf, IsWellFormed}
-use Rattle.machine.specs.Reading.{◌>>=◌}
-use Rattle.log_file.specs.Versions.{Version, header_len, last_end, CanTell}
+use Rattle.replay_model.specs.Logs.{ThreadLog, Log, no_thread, thread_of, last_tag}
+use Rattle.replay_model.specs.WellFormed.{IsInRange, IsThreadOf}
+use Rattle.log_file.specs.Versions.{Version, last_end, CanTell}
 use Rattle.log_file.specs.declared.version.Version.TheVariants.{One, Two}
-use Rattle.log_file.specs.LogFaults.{LogFault, fault}
+use Rattle.log_file.specs.LogFaults.{fault}
 use Rattle.log_file.specs.declared.log_fault.LogKind.TheVariants as kind
-use Rattle.log_file.specs.Spelling.{code_of_end, address_of_end, header_bytes, tag_bytes, entries_bytes, taken_bytes, head_bytes, spelling_in, HasNumbers, IsText}
+use Rattle.log_file.specs.Spelling.{code_of_end, address_of_end, header_bytes, tag_bytes, entries_bytes, taken_bytes, head_bytes, spelling_in, IsText}
 use Rattle.log_file.specs.LogReading.{Head, Header, no_header, reaches, head_in, headers_in, lasts_in, threads_in, steps_of, lasts_place, entries_place, taken_place, log_end, body_in, log_read}
-use Rattle.log_file.proofs.RowLaws.{AllAfter, AllAfter-map, AllAfter-at, AllAfter-from, ok_then}
+use Rattle.log_file.proofs.RowLaws.{AllAfter, AllAfter-map, AllAfter-at, ok_then}
 use Rattle.log_file.proofs.FieldLaws.{joined}
-use Rattle.log_file.proofs.TagLaws.{steps_in, IsTagIn, tag_of_log, tag_is_taken}
+use Rattle.log_file.proofs.TagLaws.{steps_in, IsTagIn, tag_of_log}
 use Rattle.log_file.proofs.EntryLaws.{passed}
-use Rattle.log_file.proofs.HeaderLaws.{IsWithin, CountsTaken, HasSmallLimits, header_text}
-use Rattle.log_file.proofs.HeadLaws.{reaches-take, reaches-again, head_of_log, IsHead, head_take, head_stands, head_again}
-use Rattle.log_file.proofs.ThreadLaws.{AreNext, rises, differ, part_ways, entries_formed, entries_next}
-use Rattle.log_file.proofs.ThreadReads.{header_of_thread, IsLogged}
-use Rattle.log_file.proofs.LogRows.{IsSound, headers_take, headers_again, lasts_take, lasts_again}
-use Rattle.log_file.proofs.ThreadRows.{headers_of, IsNextLog, threads_take, IsReadable, threads_again, behind_entries, behind_taken}
+use Rattle.log_file.proofs.HeaderLaws.{IsWithin, CountsTaken, header_text}
+use Rattle.log_file.proofs.HeadLaws.{reaches-take, head_of_log, IsHead, head_take, head_stands}
+use Rattle.log_file.proofs.ThreadLaws.{AreNext, rises, differ, part_ways, entries_formed}
+use Rattle.log_file.proofs.ThreadReads.{header_of_thread}
+use Rattle.log_file.proofs.LogRows.{IsSound, headers_take, lasts_take}
+use Rattle.log_file.proofs.ThreadRows.{headers_of, IsNextLog, threads_take}
 
 -- ---- headers of threads
 
@@ -76,8 +71,7 @@ log_parts version bytes log e =
     let last = passed (ltb (log_end version head headers) (length bytes)) (fault kind.Long (log_end version head headers)) _ log logs.2 in
     let same : record { digest = slice_range bytes 7 39; limits = head.limits; threads = logs.0; lasts = tags.0 } ≡ log = cc last.1 in
     let threads : logs.0 ≡ log.threads = ap (λ (l : Log). l.threads) same in
-    let lasts : tags.0 ≡ log.lasts = ap (λ (l : Log). l.lasts) same in
-    (
+    let lasts : tags.0 ≡ log.lasts = ap (λ (l : Log). l.lasts) same in (
       head,
       headers,
       record {

@@ -1,31 +1,24 @@
 -- Headers and last tags, row after row: what is read stands there, and what stands there is read.
-use Rattle.std.proofs.Common.{◌≡◌, ◌≢◌, ℕ, zero, suc, ◌+◌, ◌-◌, ◌*◌, ◌^◌, ◌<◌, ◌≤◌, cond, ltb, List, [], ◌∷◌, ◌++◌, length, take, drop, get_or, map, All, Option, Some, None, Result, Ok, Err, refl, sym, ap, subst, ◌∙◌, append_assoc, arith, length-append}
-use Rattle.std.specs.Prelude.{slice_range, slice_index_or}
+use Rattle.std.proofs.Common.{◌≡◌, ℕ, ◌+◌, ◌*◌, ◌^◌, ◌<◌, ◌≤◌, List, [], ◌∷◌, ◌++◌, length, drop, Option, Ok, refl, sym, ap, subst, ◌∙◌, arith, length-append}
 use Rattle.std.specs.Option.{ok_or}
-use Rattle.std.specs.List.{flat_map, sum_by}
+use Rattle.std.specs.List.{flat_map}
 use Rattle.std.specs.Int.{w32, to_be_bytes}
 use Rattle.std.proofs.Math.Nat.{mul-le-mul_left}
-use Rattle.std.proofs.lemmas.List.{length-drop, drop-drop, append-nil, length-map, get_or-map, take_more}
 use Rattle.light_base.specs.declared.tag.Tag.{Tag}
 use Rattle.light_base.specs.Tags.{bits_of}
 use Rattle.light_base.specs.Numbers.{IsBytes}
-use Rattle.replay_model.specs.Logs.{Limits, ThreadLog, Log, no_thread, thread_of, last_tag}
-use Rattle.replay_model.specs.WellFormed.{IsInRange, IsThreadOf, IsWellFormed}
-use Rattle.machine.specs.Reading.{◌>>=◌}
-use Rattle.log_file.specs.Versions.{Version, header_len, CanTell}
-use Rattle.log_file.specs.LogFaults.{LogFault, fault}
+use Rattle.log_file.specs.Versions.{Version, header_len}
+use Rattle.log_file.specs.LogFaults.{fault}
 use Rattle.log_file.specs.declared.log_fault.LogKind.TheVariants as kind
-use Rattle.log_file.specs.Spelling.{header_bytes, tag_bytes, entries_bytes, taken_bytes, head_bytes, spelling_in, entry_count, taken_count, address_of_end, HasNumbers, IsText}
+use Rattle.log_file.specs.Spelling.{tag_bytes, address_of_end}
 use Rattle.log_file.specs.declared.version.Version.TheVariants.{One, Two}
 use Rattle.log_file.specs.Rows.{rows}
-use Rattle.log_file.specs.LogReading.{Head, Header, number_at, no_header, reaches, head_in, next_header, headers_in, tag_in, next_last, lasts_in, next_thread, threads_in, steps_of, header_entries, header_taken, lasts_place, entries_place, taken_place, log_end, body_in, log_read}
-use Rattle.log_file.proofs.RowLaws.{AllAfter, AllAfter-map, AllAfter-both, AllAfter-counted, AllAfter-at, AllAfter-from, ok_then, rows_take, rows_again, StandsAt, rows_stand, rows_stood}
+use Rattle.log_file.specs.LogReading.{Head, Header, number_at, next_header, headers_in, tag_in, next_last, lasts_in, lasts_place}
+use Rattle.log_file.proofs.RowLaws.{AllAfter, AllAfter-map, AllAfter-both, AllAfter-counted, rows_take, rows_again, StandsAt, rows_stand, rows_stood}
 use Rattle.log_file.proofs.FieldLaws.{number_take, number_fits, number_again}
-use Rattle.log_file.proofs.TagLaws.{steps_in, IsTagIn, tag_take, tag_again, tag_fits, tag_of_log, tag_is_taken}
-use Rattle.log_file.proofs.EntryLaws.{passed, found}
+use Rattle.log_file.proofs.TagLaws.{IsTagIn, tag_take, tag_again, tag_fits}
+use Rattle.log_file.proofs.EntryLaws.{found}
 use Rattle.log_file.proofs.HeaderLaws.{IsWithin, HasSmallLimits, header_text, header_at-take, header_at-again}
-use Rattle.log_file.proofs.HeadLaws.{reaches-take, reaches-again, head_of_log, IsHead, head_take, head_stands, ReadsHead, head_again}
-use Rattle.log_file.proofs.ThreadReads.{header_of_thread, IsLogged, thread_take, thread_again}
 
 -- ---- headers
 
@@ -102,11 +95,10 @@ module _ (steps : List ℕ) (bytes : List ℕ) (at : ℕ) where
       let counted = AllAfter-counted (λ b t. next_last steps bytes at b ≡ Ok t) n [] new (omega (arith, count)) read in
       let each : (b : List Tag) (t : Tag) → (next_last steps bytes at b ≡ Ok t) × (length b < n) → IsTagIn steps t × StandsAt tag_bytes bytes last_place b t =
       λ b t r.
-      let one = tag_take steps (number_at bytes (last_place b)) t (number_fits bytes fits (last_place b)) (found (tag_in steps (number_at bytes (last_place b))) (fault kind.Source (last_place b)) t r.0) in
-      (
+      let one = tag_take steps (number_at bytes (last_place b)) t (number_fits bytes fits (last_place b)) (found (tag_in steps (number_at bytes (last_place b))) (fault kind.Source (last_place b)) t r.0) in (
         one.1,
         number_take bytes fits (last_place b) (last_place b + 4) refl (omega (arith, r.1)) ∙ ap (λ (k : ℕ). to_be_bytes w32 k ++ drop (last_place b + 4) bytes) (sym one.0) ∙
-        ap (λ (k : ℕ). tag_bytes t ++ drop k bytes) (sym (last_place-more b t)),
+            ap (λ (k : ℕ). tag_bytes t ++ drop k bytes) (sym (last_place-more b t)),
       ) in
       let tags = AllAfter-map _ (λ b t. IsTagIn steps t) (λ b t r. (each b t r).0) [] new counted in
       let stand = rows_stand tag_bytes bytes last_place [] new (AllAfter-map _ (StandsAt tag_bytes bytes last_place) (λ b t r. (each b t r).1) [] new counted) in

@@ -1,15 +1,14 @@
 -- Tags of a log: what is read is one, and one is read.
-use Rattle.std.proofs.Common.{◌≡◌, ℕ, zero, suc, ◌+◌, ◌-◌, ◌*◌, ◌/◌, ◌%◌, ◌^◌, ◌<◌, ◌≤◌, Bool, true, false, cond, eqb, ltb, leb, ◌&&◌, ◌||◌, List, length, map, get_or, Option, Some, None, refl, sym, ap, subst, ◌∙◌, arith, inl, inr, ◌⊎◌}
+use Rattle.std.proofs.Common.{◌≡◌, ℕ, zero, suc, ◌%◌, ◌^◌, ◌<◌, ◌≤◌, Bool, true, false, eqb, ltb, leb, ◌&&◌, ◌||◌, List, length, map, Some, None, refl, sym, ap, subst, ◌∙◌, arith, inl, inr, ◌⊎◌}
 use Rattle.std.specs.Prelude.{slice_index}
 use Rattle.std.proofs.lemmas.Bool.{cases_lt, and_parts, and_from, eqb-true, eq-eqb, leb-true, le-leb, ltb-true, lt-ltb, cond-true}
 use Rattle.std.proofs.lemmas.Option.{cond_some}
 use Rattle.std.proofs.lemmas.List.{get_or-map, get_or_past, length-map}
 use Rattle.light_base.specs.declared.tag.Tag.{Tag}
-use Rattle.light_base.specs.declared.tag.Event.{Event}
-use Rattle.light_base.specs.Tags.{bits_of, writer_of, IsTag, IsWriter, HasTag, bits_of-writer_of}
+use Rattle.light_base.specs.Tags.{bits_of, writer_of, IsTag, IsWriter, bits_of-writer_of}
 use Rattle.light_base.proofs.Tags.{writer_of-bits_of, bits_of-IsTag, bits_of-lt}
 use Rattle.replay_model.specs.Logs.{ThreadLog, Log, no_thread, thread_of}
-use Rattle.replay_model.specs.WellFormed.{IsTaken, IsTagOf, IsWellFormed}
+use Rattle.replay_model.specs.WellFormed.{IsTagOf, IsWellFormed}
 use Rattle.log_file.specs.LogReading.{is_taken, is_tag, tag_in}
 
 -- a tag of a log whose threads took so many steps
@@ -48,9 +47,10 @@ unfolding tag_in
 tag_take steps bits tag lt e =
     let found = cond_some (is_tag bits && is_taken steps (writer_of bits)) (writer_of bits) tag e in
     let both = and_parts (is_tag bits) (is_taken steps (writer_of bits)) found.0 in
-    let holds = tag_holds bits both.0 in
-    (ap bits_of (sym found.1) ∙ bits_of-writer_of bits holds,
-      subst (IsTagIn steps) found.1 (record { taken = both.1; writer = writer_fits bits lt holds }))
+    let holds = tag_holds bits both.0 in (
+      ap bits_of (sym found.1) ∙ bits_of-writer_of bits holds,
+      subst (IsTagIn steps) found.1 (record { taken = both.1; writer = writer_fits bits lt holds }),
+    )
 
 -- and a tag of the log is read by its number
 pub tag_again : (steps : List ℕ) (tag : Tag) → IsTagIn steps tag → tag_in steps (bits_of tag) ≡ Some tag

@@ -1,32 +1,30 @@
 -- What is spelled as the text of a log is read as this log, and where bytes follow it, it is too long.
-use Rattle.std.proofs.Common.{◌≡◌, ◌≢◌, ℕ, zero, suc, ◌+◌, ◌-◌, ◌*◌, ◌^◌, ◌<◌, ◌≤◌, cond, ltb, List, [], ◌∷◌, ◌++◌, length, take, drop, get_or, map, All, Option, None, Result, Ok, Err, refl, sym, ap, subst, ◌∙◌, arith, length-append, inl, inr, ◌⊎◌}
+use Rattle.std.proofs.Common.{◌≡◌, ◌≢◌, ℕ, ◌+◌, ◌*◌, ◌^◌, ◌<◌, ◌≤◌, cond, ltb, List, [], ◌++◌, length, drop, get_or, All, None, Result, Ok, Err, refl, sym, ap, subst, ◌∙◌, arith, length-append, inl, inr, ◌⊎◌}
 use Rattle.std.specs.Prelude.{slice_range, MatchResult, IfErr}
 use Rattle.std.specs.List.{flat_map}
 use Rattle.std.proofs.lemmas.Bool.{lt-ltb, le-ltb, cases_eq, cond-true, cond-false}
 use Rattle.std.proofs.lemmas.List.{length-drop, append-nil, length-map, get_or-map, get_or_default}
-use Rattle.std.proofs.lemmas.List.Sums.{sum_by-cons}
-use Rattle.std.proofs.lemmas.List.Elements.{All-get_or}
 use Rattle.light_base.specs.declared.tag.Tag.{Tag}
 use Rattle.replay_model.specs.declared.End.{End}
 use Rattle.replay_model.specs.declared.End.TheVariants.{Halted, InstrSpent, BadAddress, StepsSpent, EntriesFull, OutputFull, InputEmpty}
-use Rattle.replay_model.specs.Logs.{ThreadLog, Log, no_thread, thread_of, last_tag}
-use Rattle.replay_model.specs.WellFormed.{IsTagOf, IsThreadOf, IsWellFormed}
-use Rattle.machine.specs.Reading.{◌>>=◌}
+use Rattle.replay_model.specs.Logs.{Log, no_thread, thread_of}
+use Rattle.replay_model.specs.WellFormed.{IsTagOf, IsWellFormed}
 use Rattle.log_file.specs.Versions.{Version, header_len, last_end, CanTell}
 use Rattle.log_file.specs.declared.version.Version.TheVariants.{One, Two}
 use Rattle.log_file.specs.LogFaults.{LogFault, LogKind, fault, out_of_memory}
 use Rattle.log_file.specs.declared.log_fault.LogKind.TheVariants as kind
-use Rattle.log_file.specs.Spelling.{code_of_end, address_of_end, header_bytes, tag_bytes, entries_bytes, taken_bytes, head_bytes, spelling_in, entry_count, taken_count, HasNumbers, IsText}
-use Rattle.log_file.specs.LogReading.{Gives, Head, Header, no_header, reaches, head_in, headers_in, lasts_in, threads_in, steps_of, header_entries, header_taken, lasts_place, entries_place, taken_place, log_end, body_in, log_read}
+use Rattle.log_file.specs.Spelling.{code_of_end, header_bytes, tag_bytes, entries_bytes, taken_bytes, head_bytes, spelling_in, HasNumbers, IsText}
+use Rattle.log_file.specs.LogReading.{Gives, head_in, headers_in, lasts_in, threads_in, steps_of, header_entries, header_taken, lasts_place, entries_place, taken_place, log_end, body_in, log_read}
+use Rattle.log_file.proofs.Pieces.{length-headers, length-tags, length-all_entries, length-all_taken}
 use Rattle.log_file.proofs.RowLaws.{AllAfter, AllAfter-from}
 use Rattle.log_file.proofs.FieldLaws.{parted}
 use Rattle.log_file.proofs.TagLaws.{steps_in, IsTagIn, tag_is_taken}
 use Rattle.log_file.proofs.HeaderLaws.{IsWithin, CountsTaken, HasSmallLimits, header_text}
-use Rattle.log_file.proofs.HeadLaws.{reaches-again, head_of_log, head_again, head_there, ReadsHead}
+use Rattle.log_file.proofs.HeadLaws.{reaches-again, head_of_log, head_again, head_there}
 use Rattle.log_file.proofs.ThreadLaws.{AreNext, entries_next}
 use Rattle.log_file.proofs.ThreadReads.{header_of_thread}
 use Rattle.log_file.proofs.LogRows.{IsSound, headers_again, lasts_again}
-use Rattle.log_file.proofs.ThreadRows.{headers_of, entries_counted, taken_counted, IsReadable, length-entries, length-numbers, threads_again, behind_entries, behind_taken}
+use Rattle.log_file.proofs.ThreadRows.{headers_of, entries_counted, taken_counted, IsReadable, threads_again, behind_entries, behind_taken}
 use Rattle.log_file.proofs.LogLaws.{headers_spelled, steps_of_headers}
 
 -- ---- a well-formed log passes the tests
@@ -88,35 +86,6 @@ module _ (version : Version) (log : Log) (formed : IsWellFormed log) (numbers : 
       })
 
 -- ---- lengths
-
-header-length : (version : Version) (t : ThreadLog) → length (header_bytes version t) ≡ header_len version
-header-length One t = refl
-header-length Two t = refl
-
-length-headers : (version : Version) (threads : List ThreadLog) → length (flat_map (header_bytes version) threads) ≡ header_len version * length threads
-length-headers version [] = omega arith
-length-headers version (t ∷ threads) =
-    length-append (header_bytes version t) (flat_map (header_bytes version) threads) ∙ ap (λ (n : ℕ). n + length (flat_map (header_bytes version) threads)) (header-length version t) ∙
-    ap (λ (n : ℕ). header_len version + n) (length-headers version threads) ∙ grown (header_len version) (length threads)
-  where
-    grown : (len n : ℕ) → len + len * n ≡ len * suc n
-    grown len n = omega arith
-
-length-tags : (tags : List Tag) → length (flat_map tag_bytes tags) ≡ 4 * length tags
-length-tags [] = refl
-length-tags (t ∷ tags) = length-append (tag_bytes t) (flat_map tag_bytes tags) ∙ omega (arith, length-tags tags)
-
-length-all_entries : (threads : List ThreadLog) → length (flat_map entries_bytes threads) ≡ 14 * entry_count threads
-length-all_entries [] = refl
-length-all_entries (t ∷ threads) =
-    let count : entry_count (t ∷ threads) ≡ length t.entries + entry_count threads = sum_by-cons (λ (u : ThreadLog). length u.entries) t threads in
-    length-append (entries_bytes t) (flat_map entries_bytes threads) ∙ omega (arith, length-entries t.entries, length-all_entries threads)
-
-length-all_taken : (threads : List ThreadLog) → length (flat_map taken_bytes threads) ≡ 4 * taken_count threads
-length-all_taken [] = refl
-length-all_taken (t ∷ threads) =
-    let count : taken_count (t ∷ threads) ≡ length t.taken + taken_count threads = sum_by-cons (λ (u : ThreadLog). length u.taken) t threads in
-    length-append (taken_bytes t) (flat_map taken_bytes threads) ∙ omega (arith, length-numbers t.taken, length-all_taken threads)
 
 -- where bytes go on after a part, they reach its end
 reach : (bytes : List ℕ) (at k : ℕ) (part rest : List ℕ) → at ≤ length bytes → drop at bytes ≡ part ++ rest → length part ≡ k → at + k ≤ length bytes

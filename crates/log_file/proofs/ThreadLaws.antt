@@ -1,9 +1,9 @@
 -- Entries and threads: their tests are what a well-formed log keeps.
-use Rattle.std.proofs.Common.{◌≡◌, ◌≢◌, ℕ, zero, suc, ◌+◌, ◌-◌, ◌*◌, ◌^◌, ◌<◌, ◌≤◌, Bool, true, false, eqb, leb, ◌&&◌, List, [], ◌∷◌, ◌++◌, length, take, get_or, refl, sym, ap, subst, ◌∙◌, arith, inl, inr, ◌⊎◌}
-use Rattle.std.specs.Prelude.{Contains, slice_index_or}
+use Rattle.std.proofs.Common.{◌≡◌, ◌≢◌, ℕ, zero, suc, ◌-◌, ◌<◌, ◌≤◌, Bool, true, false, eqb, leb, List, [], ◌++◌, length, take, get_or, sym, ap, subst, ◌∙◌, arith, inl, inr, ◌⊎◌}
+use Rattle.std.specs.Prelude.{Contains}
 use Rattle.std.specs.List.{list_any}
-use Rattle.std.proofs.lemmas.Bool.{cases_Bool, cases_lt, cases_eq, eqb-true, eq-eqb, leb-true, le-leb, lt-leb, leb-false, and_parts, and_from}
-use Rattle.std.proofs.lemmas.List.{length-take, length-take-le, get_or-take, take_more, get_or_default}
+use Rattle.std.proofs.lemmas.Bool.{cases_Bool, cases_lt, eqb-true, eq-eqb, leb-true, le-leb, and_parts, and_from}
+use Rattle.std.proofs.lemmas.List.{length-take-le, get_or-take, get_or_default}
 use Rattle.std.proofs.lemmas.List.Elements.{Contains-get_or}
 use Rattle.std.proofs.lemmas.List.Folds.{list_any_at}
 use Rattle.light_base.specs.declared.tag.Tag.{Tag}
@@ -16,7 +16,7 @@ use Rattle.replay_model.specs.WellFormed.{IsEntryOf, IsThreadOf, IsWellFormed}
 use Rattle.dep_log.specs.Buckets.{no_entry}
 use Rattle.log_file.specs.LogReading.{newest_first, ends_late}
 use Rattle.log_file.proofs.RowLaws.{AllAfter, AllAfter-at, AllAfter-from}
-use Rattle.log_file.proofs.TagLaws.{steps_in, IsTagIn, tag_of_log, tag_is_taken}
+use Rattle.log_file.proofs.TagLaws.{steps_in, tag_of_log, tag_is_taken}
 use Rattle.log_file.proofs.EntryLaws.{IsNext}
 
 -- a test that none of some entries passes fails at each

@@ -1,19 +1,17 @@
 -- The log of a thread: what is read stands in the bytes, and what stands there is read.
-use Rattle.std.proofs.Common.{◌≡◌, ℕ, zero, suc, ◌+◌, ◌-◌, ◌*◌, ◌^◌, ◌<◌, ◌≤◌, List, [], ◌∷◌, ◌++◌, length, take, drop, get_or, All, Result, Ok, Err, refl, sym, ap, subst, ◌∙◌, append_assoc, arith, length-append}
-use Rattle.std.specs.List.{flat_map, AllByRecursion}
+use Rattle.std.proofs.Common.{◌≡◌, ℕ, ◌+◌, ◌*◌, ◌^◌, ◌<◌, ◌≤◌, List, [], ◌∷◌, ◌++◌, length, drop, All, Ok, sym, ap, subst, ◌∙◌, arith, length-append}
+use Rattle.std.specs.List.{flat_map}
 use Rattle.std.specs.Int.{w32, to_be_bytes}
-use Rattle.std.proofs.lemmas.List.{length-drop, drop-drop, append-nil}
+use Rattle.std.proofs.lemmas.List.{length-drop, drop-drop}
 use Rattle.std.proofs.lemmas.List.Elements.{All-from_recursion, recursion_from_All}
 use Rattle.light_base.specs.Numbers.{IsBytes}
 use Rattle.replay_model.specs.declared.Entry.{Entry}
 use Rattle.replay_model.specs.Logs.{ThreadLog}
-use Rattle.machine.specs.Reading.{◌>>=◌, numbers_at}
+use Rattle.machine.specs.Reading.{numbers_at}
 use Rattle.machine.proofs.ImageNumbers.{IsBytes-drop, wide32, numbers_take, numbers_again}
-use Rattle.log_file.specs.LogFaults.{LogFault}
-use Rattle.log_file.specs.Rows.{rows}
 use Rattle.log_file.specs.Spelling.{entry_bytes, entries_bytes, taken_bytes}
 use Rattle.log_file.specs.LogReading.{Header, next_entry, entries_at, thread_at}
-use Rattle.log_file.proofs.RowLaws.{AllAfter, AllAfter-map, AllAfter-both, AllAfter-counted, ok_then, rows_take, rows_again, StandsAt, rows_stand, rows_stood}
+use Rattle.log_file.proofs.RowLaws.{AllAfter-map, AllAfter-both, AllAfter-counted, ok_then, rows_take, rows_again, StandsAt, rows_stand, rows_stood}
 use Rattle.log_file.proofs.EntryLaws.{IsNext, entry_at-take, entry_at-again}
 use Rattle.log_file.proofs.ThreadLaws.{AreNext}
 

@@ -1,16 +1,14 @@
 -- The logs of threads, row after row: what is read stands there, and what stands there is read.
-use Rattle.std.proofs.Common.{◌≡◌, ℕ, zero, suc, ◌+◌, ◌-◌, ◌*◌, ◌^◌, ◌<◌, ◌≤◌, List, [], ◌∷◌, ◌++◌, length, take, drop, get_or, map, All, Result, Ok, Err, refl, sym, ap, subst, ◌∙◌, append_assoc, arith, length-append}
-use Rattle.std.specs.List.{flat_map, sum_by}
-use Rattle.std.specs.Int.{w32, to_be_bytes}
+use Rattle.std.proofs.Common.{◌≡◌, ℕ, ◌+◌, ◌*◌, ◌^◌, ◌<◌, ◌≤◌, List, [], ◌∷◌, ◌++◌, length, take, drop, get_or, map, All, Ok, refl, sym, ap, subst, ◌∙◌, append_assoc, arith, length-append}
+use Rattle.std.specs.List.{flat_map}
 use Rattle.std.proofs.lemmas.List.{append-nil, length-map, get_or-map, map-append, take_more, take-append-drop, length-take-le, take_all}
 use Rattle.std.proofs.lemmas.List.Sums.{sum_by-cons, sum_by-append}
 use Rattle.light_base.specs.Numbers.{IsBytes}
-use Rattle.replay_model.specs.declared.Entry.{Entry}
-use Rattle.replay_model.specs.Logs.{ThreadLog, no_thread}
-use Rattle.log_file.specs.LogFaults.{LogFault}
-use Rattle.log_file.specs.Spelling.{entry_bytes, entries_bytes, taken_bytes, entry_count, taken_count}
+use Rattle.replay_model.specs.Logs.{ThreadLog}
+use Rattle.log_file.specs.Spelling.{entries_bytes, taken_bytes, entry_count, taken_count}
 use Rattle.log_file.specs.Rows.{rows}
 use Rattle.log_file.specs.LogReading.{Header, no_header, thread_at, next_thread, threads_in, steps_of, header_entries, header_taken}
+use Rattle.log_file.proofs.Pieces.{length-entries, length-numbers}
 use Rattle.log_file.proofs.RowLaws.{AllAfter, AllAfter-map, AllAfter-both, AllAfter-from, rows_take, rows_again, StandsAt, rows_stand, rows_stood}
 use Rattle.log_file.proofs.RowReads.{entries_left, taken_left, entries_more, taken_more}
 use Rattle.log_file.proofs.ThreadLaws.{AreNext}
@@ -69,11 +67,10 @@ module _ (words : ℕ) (headers : List Header) (bytes : List ℕ) (at from : ℕ
         let es : entry_count before ≡ header_entries (take k headers) = entries_counted before ∙ ap header_entries same in
         let ns : taken_count before ≡ header_taken (take k headers) = taken_counted before ∙ ap header_taken same in
         let logged = thread_take words (steps_of headers) h bytes (entries_from before) (taken_from before) t fits (omega (arith, es, entries_most headers k less, entries_there)) (omega (arith, ns, taken_most headers k less, taken_there)) read in
-        let longer : length (before ++ t ∷ []) ≡ k + 1 = length-append before (t ∷ []) in
-        (
+        let longer : length (before ++ t ∷ []) ≡ k + 1 = length-append before (t ∷ []) in (
           logged,
           map-append header_of_thread before (t ∷ []) ∙ ap (λ (hs : List Header). hs ++ header_of_thread t ∷ []) same ∙ ap (λ (x : Header). take k headers ++ x ∷ []) logged.header ∙
-          sym (take_more headers k no_header less) ∙ ap (λ (n : ℕ). take n headers) (sym longer),
+              sym (take_more headers k no_header less) ∙ ap (λ (n : ℕ). take n headers) (sym longer),
         )
 
     each_logged : (before new : List ThreadLog) → headers_of before ≡ take (length before) headers → length before + length new ≤ length headers → AllAfter (λ b t. next_thread words headers bytes at from b ≡ Ok t) before new →
@@ -115,14 +112,6 @@ pub record IsReadable (words : ℕ) (steps : List ℕ) (t : ThreadLog) : Type 0 
   pub next : AreNext words steps t.steps t.entries
   pub short : t.steps < 2 ^ 32
   pub numbers : All (λ n. n < 2 ^ 32) t.taken
-
-pub length-entries : (entries : List Entry) → length (flat_map entry_bytes entries) ≡ 14 * length entries
-length-entries [] = refl
-length-entries (e ∷ entries) = length-append (entry_bytes e) (flat_map entry_bytes entries) ∙ omega (arith, length-entries entries)
-
-pub length-numbers : (numbers : List ℕ) → length (flat_map (to_be_bytes w32) numbers) ≡ 4 * length numbers
-length-numbers [] = refl
-length-numbers (n ∷ numbers) = length-append (to_be_bytes w32 n) (flat_map (to_be_bytes w32) numbers) ∙ omega (arith, length-numbers numbers)
 
 module _ (words : ℕ) (threads : List ThreadLog) (bytes : List ℕ) (at from : ℕ) where
   abbrev entries_of_before : List ThreadLog → ℕ

@@ -1,5 +1,5 @@
 -- Reading a log: the log that the bytes tell, or the first fault in the order of the tests.
-use Rattle.std.specs.Prelude.{ℕ, zero, suc, ◌+◌, ◌-◌, ◌*◌, ◌/◌, ◌%◌, ◌^◌, ◌≤◌, Bool, true, ◌&&◌, ◌||◌, not, nat_eq, nat_lt, nat_le, if◌then◌else◌, List, [], ◌∷◌, ◌++◌, length, drop, map, slice_index, slice_index_or, slice_range, Option, None, Some, Result, Ok, Err}
+use Rattle.std.specs.Prelude.{ℕ, ◌+◌, ◌-◌, ◌*◌, ◌%◌, ◌^◌, ◌≤◌, Bool, true, ◌&&◌, ◌||◌, not, nat_eq, nat_lt, nat_le, if◌then◌else◌, List, length, drop, map, slice_index, slice_index_or, slice_range, Option, None, Some, Result, Ok, Err}
 use Rattle.std.specs.Option.{ok_or}
 use Rattle.std.specs.List.{list_any, starts_with, sum_by}
 use Rattle.std.specs.Int.{w16, w32, from_be_bytes}
@@ -49,8 +49,8 @@ unfoldable pub head_in : Version → List ℕ → Result Head LogFault
 head_in version bytes = do
   reaches bytes 51
   if not (starts_with nat_eq bytes (magic_of version)) then Err (fault kind.Magic 0)
-    else if not (are_counts (slice_index bytes 4) (half_at bytes 5) && are_limits (limits_in bytes)) then Err (fault kind.Counts 4)
-    else Ok (record { threads = slice_index bytes 4; words = half_at bytes 5; limits = limits_in bytes })
+      else if not (are_counts (slice_index bytes 4) (half_at bytes 5) && are_limits (limits_in bytes)) then Err (fault kind.Counts 4)
+      else Ok (record { threads = slice_index bytes 4; words = half_at bytes 5; limits = limits_in bytes })
 
 -- ---- the headers: how each thread ended, and what it counts
 
@@ -153,9 +153,9 @@ entry_of words steps own at before word bits first last =
     else do
       source ← ok_or (tag_in steps bits) (fault kind.Source at)
       if nat_le words word then Err (fault kind.Word at)
-        else if list_any (is_entry_for word source) before then Err (fault kind.Twice at)
-        else if list_any (ends_late word first) before then Err (fault kind.Overlap at)
-        else Ok (record { word = word; source = source; first = first; last = last })
+          else if list_any (is_entry_for word source) before then Err (fault kind.Twice at)
+          else if list_any (ends_late word first) before then Err (fault kind.Overlap at)
+          else Ok (record { word = word; source = source; first = first; last = last })
 
 abbrev pub entry_at : ℕ → List ℕ → ℕ → List ℕ → ℕ → List Entry → Result Entry LogFault
 entry_at words steps own bytes at before = entry_of words steps own at before (half_at bytes at) (number_at bytes (at + 2)) (number_at bytes (at + 6)) (number_at bytes (at + 10))
@@ -217,7 +217,7 @@ body_in version head headers bytes = do
   lasts ← lasts_in (steps_of headers) bytes (lasts_place version head) head.words
   threads ← threads_in head.words headers bytes (entries_place version head) (taken_place version head headers)
   if nat_lt (log_end version head headers) (length bytes) then Err (fault kind.Long (log_end version head headers))
-    else Ok (record { digest = slice_range bytes 7 39; limits = head.limits; threads = threads; lasts = lasts })
+      else Ok (record { digest = slice_range bytes 7 39; limits = head.limits; threads = threads; lasts = lasts })
 
 -- the log that the bytes tell in this version, or the first fault
 unfoldable pub log_read : Version → List ℕ → Result Log LogFault

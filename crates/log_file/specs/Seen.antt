@@ -1,5 +1,5 @@
 -- What is known of the entries of a thread while they are read.
-use Rattle.std.specs.Prelude.{◌≡◌, ℕ, ◌+◌, ◌*◌, ◌^◌, ◌<◌, nat_eq, nat_le, List, length, slice_index, All}
+use Rattle.std.specs.Prelude.{◌≡◌, ℕ, ◌^◌, ◌<◌, nat_eq, nat_le, length, slice_index, All}
 use Rattle.std.specs.List.{list_any}
 use Rattle.std.specs.HashSet.{contains}
 use Rattle.light_base.specs.declared.tag.Tag.{Tag}

@@ -191,12 +191,7 @@ pub(crate) fn headers_of(
 {
     let mut headers = Vec::with_capacity(alloc, head.threads)?;
     for thread in 0..head.threads {
-        let header = header_at(
-            version,
-            head,
-            bytes,
-            51 + version.header_len() * thread,
-        )?;
+        let header = header_at(version, head, bytes, 51 + version.header_len() * thread)?;
         headers.push(header)?;
     }
     Ok(headers)

@@ -210,13 +210,7 @@ fn body_of(
     let end = log_end(version, head, headers);
     reaches(bytes, end)?;
     let steps = steps_of(alloc, headers)?;
-    let lasts = lasts_of(
-        alloc,
-        &steps,
-        bytes,
-        lasts_place(version, head),
-        head.words,
-    )?;
+    let lasts = lasts_of(alloc, &steps, bytes, lasts_place(version, head), head.words)?;
     let threads = threads_of(
         alloc,
         head.words,

@@ -1,22 +1,22 @@
 // The bytes of a log.
-ghost use Rattle.std.specs.Prelude.{◌≡◌, ◌+◌, ◌*◌, ◌≤◌, ◌++◌, All, IfOk, OnOk, length};
+ghost use Rattle.std.specs.Prelude.{◌≡◌, ◌+◌, ◌*◌, ◌^◌, ◌<◌, ◌≤◌, ◌++◌, All, IfOk, OnOk, length};
 ghost use Rattle.std.specs.List.{flat_map};
 ghost use Rattle.std.specs.Int.{w32, to_be_bytes};
 ghost use Rattle.log_file.specs.declared.version.Version.TheVariants.{Two};
-ghost use Rattle.log_file.specs.Spelling.{address_of_end, code_of_end, entries_bytes, entry_count, entry_bytes, head_bytes, header_bytes, limits_bytes, spelling, tag_bytes, taken_bytes, taken_count, text_len};
+ghost use Rattle.log_file.specs.Spelling.{address_of_end, code_of_end, entries_bytes, entry_count, entry_bytes, head_bytes, header_bytes, limits_bytes, spelling, tag_bytes, taken_bytes, taken_count, text_len, IsText};
 
+use crate::version::Version;
 use dep_log::{Entry, RunLog, ThreadLog};
 use light_base::{Memory, Tag, put_u16, put_u32};
 use machine::{End, Limits};
 use std::alloc::Global;
 
-/// The first four bytes of each log.
-const MAGIC: [u8; 4] = *b"LLG2";
-
-/// The one text of a log.
+/// The one text of a log. `read_log` gives the log back: these bytes are its text, and the text of a log is read as this
+/// log. The bytes are as many as were asked for at first.
 pub fn write_log(alloc: Global, log: &RunLog) -> Result<Vec<u8>, Memory>
+    ensures text { IfOk result (λ bytes. IsText Two bytes.items log.now) }
     ensures value { IfOk result (λ bytes. bytes.items ≡ spelling log.now) }
-    ensures len { IfOk result (λ bytes. length log.now.digest ≡ 32 → length bytes.items ≡ text_len log.now) }
+    ensures len { IfOk result (λ bytes. length bytes.items ≡ text_len log.now) }
 {
     let mut out = Vec::with_capacity(alloc, text_len(log))?;
     put_head(&mut out, log)?;
@@ -68,13 +68,23 @@ fn taken_count(threads: &[ThreadLog]) -> usize
 
 // Appends what stands before the headers.
 fn put_head(out: &mut Vec<u8>, log: &RunLog) -> Result<(), Memory>
-    ensures { OnOk result (out.new.items ≡ out.old.items ++ head_bytes Two log.now) }
+    ensures digest { OnOk result (length log.now.digest ≡ 32) }
+    ensures digest_bytes { OnOk result (All (λ byte. byte < 256) log.now.digest) }
+    ensures written { OnOk result (out.new.items ≡ out.old.items ++ head_bytes Two log.now) }
 {
-    out.extend_from_slice(&MAGIC)?;
+    out.extend_from_slice(&Version::Two.magic())?;
     out.push(log.threads().len() as u8)?;
     put_u16(out, log.finals().len() as u16)?;
-    out.extend_from_slice(log.digest())?;
+    put_digest(out, log.digest())?;
     put_limits(out, log.limits())
+}
+
+fn put_digest(out: &mut Vec<u8>, digest: &[u8]) -> Result<(), Memory>
+    ensures written { OnOk result (out.new.items ≡ out.old.items ++ digest.now) }
+    ensures bytes { All (λ byte. byte < 256) digest.now }
+{
+    out.extend_from_slice(digest)?;
+    Ok(())
 }
 
 #[tactic(auto, unfolding(crate::specs::Spelling::limits_bytes))]
@@ -89,7 +99,8 @@ fn put_limits(out: &mut Vec<u8>, limits: &Limits) -> Result<(), Memory>
 fn put_headers(out: &mut Vec<u8>, threads: &[ThreadLog]) -> Result<(), Memory>
     requires entries { All (λ thread. length thread.entries ≤ 16384) threads.now }
     requires taken { All (λ thread. length thread.taken ≤ 65536) threads.now }
-    ensures { OnOk result (out.new.items ≡ out.old.items ++ flat_map (header_bytes Two) threads.now) }
+    ensures written { OnOk result (out.new.items ≡ out.old.items ++ flat_map (header_bytes Two) threads.now) }
+    ensures addresses { OnOk result (All (λ thread. address_of_end thread.end < 2 ^ 32) threads.now) }
 {
     for thread in threads {
         put_header(out, thread)?;
@@ -100,7 +111,8 @@ fn put_headers(out: &mut Vec<u8>, threads: &[ThreadLog]) -> Result<(), Memory>
 fn put_header(out: &mut Vec<u8>, thread: &ThreadLog) -> Result<(), Memory>
     requires entries { length thread.now.entries ≤ 16384 }
     requires taken { length thread.now.taken ≤ 65536 }
-    ensures { OnOk result (out.new.items ≡ out.old.items ++ header_bytes Two thread.now) }
+    ensures written { OnOk result (out.new.items ≡ out.old.items ++ header_bytes Two thread.now) }
+    ensures address { OnOk result (address_of_end thread.now.end < 2 ^ 32) }
 {
     out.push(code_of(thread.end()))?;
     put_u32(out, address_of(thread.end()))?;
@@ -172,7 +184,8 @@ fn put_entry(out: &mut Vec<u8>, entry: &Entry) -> Result<(), Memory>
 }
 
 fn put_all_taken(out: &mut Vec<u8>, threads: &[ThreadLog]) -> Result<(), Memory>
-    ensures { OnOk result (out.new.items ≡ out.old.items ++ flat_map taken_bytes threads.now) }
+    ensures written { OnOk result (out.new.items ≡ out.old.items ++ flat_map taken_bytes threads.now) }
+    ensures numbers { OnOk result (All (λ thread. All (λ n. n < 2 ^ 32) thread.taken) threads.now) }
 {
     for thread in threads {
         put_numbers(out, thread.taken())?;
@@ -181,7 +194,8 @@ fn put_all_taken(out: &mut Vec<u8>, threads: &[ThreadLog]) -> Result<(), Memory>
 }
 
 fn put_numbers(out: &mut Vec<u8>, numbers: &[u32]) -> Result<(), Memory>
-    ensures { OnOk result (out.new.items ≡ out.old.items ++ flat_map (to_be_bytes w32) numbers.now) }
+    ensures written { OnOk result (out.new.items ≡ out.old.items ++ flat_map (to_be_bytes w32) numbers.now) }
+    ensures numbers { All (λ n. n < 2 ^ 32) numbers.now }
 {
     for number in numbers {
         put_u32(out, *number)?;

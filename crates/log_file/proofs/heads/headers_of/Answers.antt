@@ -1,4 +1,4 @@
-use Rattle.std.proofs.Common.{◌≡◌, ℕ, ◌+◌, ◌*◌, List, length, sym, ap, ◌∙◌, rules}
+use Rattle.std.proofs.Common.{◌≡◌, ◌+◌, ◌*◌, length, sym, ap, ◌∙◌, rules}
 use Rattle.std.proofs.lemmas.List.Elements.{All-push}
 use Rattle.std.proofs.lemmas.Result.{err_from_is_err_and}
 use Rattle.log_file.specs.Versions.{header_len}
@@ -27,8 +27,8 @@ loop-thread-preserved c =
     let place : 51 + header_len v * length c.loop-thread.headers.items ≡ 51 + c.header_len.result * i = cc (c.loop-thread.invariant.count, c.header_len.ensures) in
     record {
       read = rw c.in_ok-push.ensures.items
-      (rows_go_on (next_header v head bytes) c.loop-thread.headers.items head.threads i c.in_ok-header.header (headers_in v head bytes) c.loop-thread-test.true
-      (ap (header_at v head bytes) place ∙ sym c.in_ok-header.ensures.value) c.loop-thread.invariant.read);
+          (rows_go_on (next_header v head bytes) c.loop-thread.headers.items head.threads i c.in_ok-header.header (headers_in v head bytes) c.loop-thread-test.true
+          (ap (header_at v head bytes) place ∙ sym c.in_ok-header.ensures.value) c.loop-thread.invariant.read);
       count = search rules;
       small = rw c.in_ok-push.ensures.items (All-push IsSmall c.loop-thread.headers.items c.in_ok-header.header c.loop-thread.invariant.small c.in_ok-header.ensures.small);
     }

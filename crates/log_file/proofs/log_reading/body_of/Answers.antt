@@ -1,8 +1,8 @@
-use Rattle.std.proofs.Common.{◌≡◌, ℕ, ◌<◌, ◌≤◌, List, Ok, Err, length, sym, ap, subst, ◌∙◌}
+use Rattle.std.proofs.Common.{ℕ, ◌<◌, ◌≤◌, List, Err, length, sym, ap, subst, ◌∙◌}
 use Rattle.std.proofs.lemmas.Result.{err_from_is_err_and}
 use Rattle.log_file.specs.LogFaults.{fault}
 use Rattle.log_file.specs.declared.log_fault.LogKind.TheVariants.{Long}
-use Rattle.log_file.specs.LogReading.{reaches, lasts_in, threads_in, lasts_place, entries_place, taken_place, log_end}
+use Rattle.log_file.specs.LogReading.{reaches, lasts_in, threads_in, lasts_place, taken_place}
 use Rattle.log_file.proofs.Bodies.{body_short, body_lasts, body_threads, body_long, body_is}
 use Rattle.log_file.proofs.log_reading.body_of.Goals as goal
 

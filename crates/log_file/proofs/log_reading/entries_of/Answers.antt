@@ -1,4 +1,4 @@
-use Rattle.std.proofs.Common.{◌≡◌, ℕ, [], ◌∷◌, length-append, ◌+◌, ◌*◌, List, Ok, Err, length, sym, ap, ◌∙◌, arith, rules}
+use Rattle.std.proofs.Common.{[], ◌∷◌, length-append, Ok, Err, length, ap, ◌∙◌, arith}
 use Rattle.std.proofs.lemmas.Result.{err_from_is_err_and}
 use Rattle.log_file.specs.LogReading.{next_entry, entries_at}
 use Rattle.log_file.proofs.RowSteps.{rows_go_on, rows_stop, rows_end}
@@ -28,8 +28,8 @@ loop-i-preserved c =
     let entry = c.in_ok-entry.entry in
     record {
       read = rw c.in_ok-push.ensures.entries
-      (rows_go_on (next_entry words steps own bytes c.args.at) before c.args.count c.loop-i.i entry (entries_at words steps own bytes c.args.at c.args.count) c.loop-i-test.true
-      (entry_read words steps own bytes c.args.at before (length c.loop-i.seen.ends.items) c.loop-i.i (Ok entry) c.loop-i.invariant.words c.loop-i.invariant.count c.in_ok-entry.ensures.value) c.loop-i.invariant.read);
+          (rows_go_on (next_entry words steps own bytes c.args.at) before c.args.count c.loop-i.i entry (entries_at words steps own bytes c.args.at c.args.count) c.loop-i-test.true
+          (entry_read words steps own bytes c.args.at before (length c.loop-i.seen.ends.items) c.loop-i.i (Ok entry) c.loop-i.invariant.words c.loop-i.invariant.count c.in_ok-entry.ensures.value) c.loop-i.invariant.read);
       count = ap length c.in_ok-push.ensures.entries ∙ omega (arith, length-append before (entry ∷ []), c.loop-i.invariant.count);
       kept = c.in_ok-push.ensures.kept;
       words = c.in_ok-push.ensures.words ∙ c.loop-i.invariant.words;

@@ -1,4 +1,4 @@
-use Rattle.std.proofs.Common.{◌≡◌, ℕ, ◌+◌, ◌*◌, List, Some, None, length, sym, ap, ◌∙◌, arith, rules}
+use Rattle.std.proofs.Common.{◌≡◌, ◌+◌, ◌*◌, Some, None, length, arith, rules}
 use Rattle.log_file.specs.LogFaults.{fault}
 use Rattle.log_file.specs.declared.log_fault.LogKind.TheVariants.{Source}
 use Rattle.log_file.specs.LogReading.{next_last, lasts_in}
@@ -23,8 +23,8 @@ loop-word-preserved c =
     let place : c.args.at + 4 * c.loop-word.word ≡ c.args.at + 4 * length before = omega (arith, c.loop-word.invariant.count) in
     record {
       read = rw c.in_ok-push-in-Some.ensures.items
-      (rows_go_on (next_last steps bytes c.args.at) before c.args.words c.loop-word.word c.in-Some.tag (lasts_in steps bytes c.args.at c.args.words) c.loop-word-test.true
-      (last_read steps bytes c.args.at before (c.args.at + 4 * c.loop-word.word) c.number_at.result (Some c.in-Some.tag) place c.number_at.ensures c.in-Some.ensures) c.loop-word.invariant.read);
+          (rows_go_on (next_last steps bytes c.args.at) before c.args.words c.loop-word.word c.in-Some.tag (lasts_in steps bytes c.args.at c.args.words) c.loop-word-test.true
+          (last_read steps bytes c.args.at before (c.args.at + 4 * c.loop-word.word) c.number_at.result (Some c.in-Some.tag) place c.number_at.ensures c.in-Some.ensures) c.loop-word.invariant.read);
       count = search rules;
     }
 

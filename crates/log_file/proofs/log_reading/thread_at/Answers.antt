@@ -1,4 +1,4 @@
-use Rattle.std.proofs.Common.{List, ℕ, length, ap, ◌∙◌}
+use Rattle.std.proofs.Common.{length, ap, ◌∙◌}
 use Rattle.std.specs.Int.{w32}
 use Rattle.replay_model.specs.Logs.{ThreadLog}
 use Rattle.log_file.proofs.RowReads.{length-numbers_at}

@@ -1,6 +1,6 @@
-use Rattle.std.proofs.Common.{◌≡◌, ℕ, ◌+◌, ◌*◌, ◌≤◌, List, [], ◌∷◌, Ok, Err, length, drop, get_or, sym, ap, ◌∙◌, arith, length-append}
+use Rattle.std.proofs.Common.{[], ◌∷◌, Ok, Err, length, get_or, ap, ◌∙◌, arith, length-append}
 use Rattle.std.proofs.lemmas.Result.{err_from_is_err_and}
-use Rattle.log_file.specs.LogReading.{Header, no_header, next_thread, threads_in, header_entries, header_taken}
+use Rattle.log_file.specs.LogReading.{Header, no_header, next_thread, threads_in}
 use Rattle.log_file.proofs.RowSteps.{rows_go_on, rows_stop, rows_end}
 use Rattle.log_file.proofs.RowReads.{thread_read, entries_left, taken_left, entries_more, taken_more}
 use Rattle.log_file.proofs.log_reading.threads_of.Goals as goal
@@ -34,9 +34,9 @@ loop-header-preserved c =
     let new = c.in_ok-push.ensures.items in
     record {
       read = rw new
-      (rows_go_on read before (length c.args.headers.now) i thread (threads_in c.args.words c.args.headers.now c.args.bytes.now c.args.entries_place c.args.taken_place) c.loop-header-test.true
-      (thread_read c.args.words c.args.steps.now c.args.headers.now c.args.bytes.now c.args.entries_place c.args.taken_place before i c.loop-header.at c.loop-header.from (Ok thread)
-      c.requires.steps c.loop-header.invariant.count c.loop-header.invariant.at c.loop-header.invariant.from c.in_ok-thread.ensures.value) c.loop-header.invariant.read);
+          (rows_go_on read before (length c.args.headers.now) i thread (threads_in c.args.words c.args.headers.now c.args.bytes.now c.args.entries_place c.args.taken_place) c.loop-header-test.true
+          (thread_read c.args.words c.args.steps.now c.args.headers.now c.args.bytes.now c.args.entries_place c.args.taken_place before i c.loop-header.at c.loop-header.from (Ok thread)
+          c.requires.steps c.loop-header.invariant.count c.loop-header.invariant.at c.loop-header.invariant.from c.in_ok-thread.ensures.value) c.loop-header.invariant.read);
       count = ap length new ∙ omega (arith, length-append before (thread ∷ []), c.loop-header.invariant.count);
       at = rw new (omega (arith, entries_more before thread, c.in_ok-thread.ensures.entries, c.loop-header.invariant.at));
       from = rw new (omega (arith, taken_more before thread, c.in_ok-thread.ensures.taken, c.loop-header.invariant.from));

@@ -1,4 +1,4 @@
-use Rattle.std.proofs.Common.{◌≡◌, ℕ, List, ◌∷◌, [], ◌++◌, max, leb, eqb, true, cond, get_or, set, length, sym, ◌∙◌, ap, arith, rules}
+use Rattle.std.proofs.Common.{◌≡◌, ℕ, List, max, leb, eqb, true, cond, get_or, set, sym, ◌∙◌, ap, arith}
 use Rattle.std.proofs.Math.ListN.{length-set}
 use Rattle.std.specs.List.{list_any}
 use Rattle.std.specs.HashSet.{contains}
@@ -8,7 +8,7 @@ use Rattle.replay_model.specs.declared.Entry.{Entry}
 use Rattle.replay_model.specs.MoreReads.{is_entry_for}
 use Rattle.dep_log.specs.Buckets.{pair_of}
 use Rattle.log_file.specs.LogReading.{ends_late}
-use Rattle.log_file.specs.Seen.{IsNumbered, IsKept}
+use Rattle.log_file.specs.Seen.{IsNumbered}
 use Rattle.log_file.proofs.Kept.{pairs_more, ends_more}
 use Rattle.log_file.proofs.seen.Seen.push.Goals as goal
 
