@@ -1,4 +1,7 @@
 //! Recording: a program is run, and what its threads read, how they ended and what they left is kept.
+//!
+//! `record` runs the program's threads on real ones, which share its words; `record_turns` plays them on one thread by a
+//! given order of turns. Both give the log, the reports and the last values of one whole history.
 #![tactic(auto)]
 
 mod entries;

@@ -276,6 +276,30 @@ fn messages_are_passed_on_threads(rt: HostRuntime) -> Result<(), Fail> {
     Ok(())
 }
 
+// A compare-exchange that another thread's store of the same value may come before, after, or between.
+const COMPARE_EXCHANGE: &str =
+    ".words 1/.init 0 5/.thread/set r1 5/set r2 8/cas r1 r0 r2 0/out r15/out r1/.thread/set r1 5/store r1 r0 0";
+
+// Whether the first thread won, and left its value or the store's; or lost, and left the store's.
+fn has_won_or_lost(recorded: &Recorded) -> bool {
+    let Some(report) = recorded.reports().first() else {
+        return false;
+    };
+    let left = recorded.finals();
+    (report.output() == [1, 5].as_slice() && (left == [8].as_slice() || left == [5].as_slice()))
+        || (report.output() == [2, 5].as_slice() && left == [5].as_slice())
+}
+
+#[test]
+fn a_compare_exchange_wins_or_loses(rt: HostRuntime) -> Result<(), Fail> {
+    let alloc = rt.alloc();
+    for _ in 0..100 {
+        let recorded = recorded(&rt, alloc, COMPARE_EXCHANGE, MOST, &OpenGate)?;
+        assert!(rt; recorded.reports().iter().all(has_halted) && has_won_or_lost(&recorded));
+    }
+    Ok(())
+}
+
 fn missed(report: &RunReport) -> bool {
     report.output() == [0].as_slice()
 }
