@@ -11,6 +11,7 @@ mod numbers;
 mod outside;
 mod programs;
 mod recordings;
+mod replays;
 mod shared_words;
 mod texts;
 mod thread_recordings;
