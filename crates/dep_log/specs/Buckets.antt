@@ -1,14 +1,18 @@
 -- Entries in buckets, each of which is a list of places: of its newest entry the place plus one, and for each entry that of the next older one. 0 is none.
-use Rattle.std.specs.Prelude.{◌≡◌, ◌≢◌, ℕ, ◌+◌, ◌*◌, ◌/◌, ◌%◌, ◌^◌, ◌<◌, ◌≤◌, Bool, true, false, nat_le, Option, Some, None, List, length, slice_index, slice_index_or, vec_len, vec_capacity}
+use Rattle.std.specs.Prelude.{◌≡◌, ◌≢◌, ℕ, ◌+◌, ◌*◌, ◌/◌, ◌%◌, ◌^◌, ◌<◌, ◌≤◌, true, false, Option, Some, None, List, length, slice_index, slice_index_or, vec_len, vec_capacity}
 use Rattle.std.specs.Global.{Vec}
 use Rattle.light_base.specs.Tags.{bits_of}
 use Rattle.replay_model.specs.Steps.{Tag}
 use Rattle.replay_model.specs.declared.Entry.{Entry}
 use Rattle.replay_model.specs.MoreReads.{is_entry_for}
 
+-- a word and a tag as one number
+unfoldable pub pair_of : ℕ → Tag → ℕ
+pair_of word tag = word * 2 ^ 32 + bits_of tag
+
 -- the bucket of a word and a tag, of so many; any function of the two would do
 unfoldable pub bucket_of : ℕ → ℕ → Tag → ℕ
-bucket_of count word tag = ((bits_of tag + word * 0x85EBCA6B % 2 ^ 32) % 2 ^ 32 * 0x9E3779B1 % 2 ^ 32) * count / 2 ^ 32
+bucket_of count word tag = (pair_of word tag * 11400714819323198485 % 2 ^ 64 / 2 ^ 32) * count / 2 ^ 32
 
 -- stands where a list has no entry
 abbrev pub no_entry : Entry
@@ -49,17 +53,9 @@ pub record HasPlace (entries : Vec Entry) (older : Vec ℕ) : Type 0 where
   pub entry : vec_len entries < vec_capacity entries
   pub link : vec_len older < vec_capacity older
 
--- there is room for as many entries as before
-pub record KeepsRoom (entries : Vec Entry) (older : Vec ℕ) (entries' : Vec Entry) (older' : Vec ℕ) : Type 0 where
-  pub entry : vec_capacity entries' ≡ vec_capacity entries
-  pub link : vec_capacity older' ≡ vec_capacity older
-
--- the state of a log that grows: it has room for as many entries as there may be
-pub record AreKept (limit : ℕ) (entries : Vec Entry) (heads : List ℕ) (older : Vec ℕ) (full : Bool) : Type 0 where
+-- the state of a log that grows
+pub record AreKept (limit : ℕ) (entries : List Entry) (heads older : List ℕ) : Type 0 where
   pub small : limit ≤ 16384
-  pub within : length entries.items ≤ limit
-  pub buckets : AreBuckets entries.items heads older.items
-  pub once : AreOnce entries.items
-  pub entry_room : limit ≤ vec_capacity entries
-  pub link_room : limit ≤ vec_capacity older
-  pub is_full : full ≡ nat_le limit (length entries.items)
+  pub within : length entries ≤ limit
+  pub buckets : AreBuckets entries heads older
+  pub once : AreOnce entries

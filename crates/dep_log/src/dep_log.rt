@@ -4,7 +4,7 @@ ghost use Rattle.replay_model.specs.MoreReads.{with_read};
 ghost use Rattle.dep_log.specs.DepLogs.{no_entries, HasRoom, LogsRead};
 
 use crate::ThreadLog;
-use crate::buckets::Buckets;
+use crate::buckets::note;
 use light_base::{Memory, Tag};
 use replay_model::{End, Entry};
 use std::alloc::Global;
@@ -18,21 +18,22 @@ use std::marker::Model;
 pub struct DepLog {
     words: u16,
     limit: u32,
-    buckets: Buckets,
-    // Whether there are as many entries as there may be.
-    full: bool,
+    entries: Vec<Entry>,
+    heads: Vec<u16>,
+    older: Vec<u16>,
 }
 
 impl Model for DepLog {
+    ghost use Rattle.std.specs.Prelude.{◌≤◌, vec_capacity};
     ghost use Rattle.dep_log.specs.DepLogs.{DepLogState};
 
     ghost Value = { DepLogState };
 
     ghost use Rattle.dep_log.specs.Buckets.{AreKept};
 
-    ghost view = { λ l. record { words = l.words; limit = l.limit; entries = l.buckets.entries.items } };
+    ghost view = { λ l. record { words = l.words; limit = l.limit; entries = l.entries.items } };
 
-    ghost invariant = { λ l. AreKept l.limit l.buckets.entries l.buckets.heads.items l.buckets.older l.full };
+    ghost invariant = { λ l. AreKept l.limit l.entries.items l.heads.items l.older.items × (l.limit ≤ vec_capacity l.entries) × (l.limit ≤ vec_capacity l.older) };
 }
 
 impl DepLog {
@@ -50,12 +51,9 @@ impl DepLog {
         Ok(DepLog {
             words,
             limit,
-            buckets: Buckets {
-                entries,
-                heads,
-                older,
-            },
-            full: limit == 0,
+            entries,
+            heads,
+            older,
         })
     }
 
@@ -63,19 +61,18 @@ impl DepLog {
     pub fn is_full(&self) -> bool
         ensures { result ≡ nat_le self.now.limit (length self.now.entries) }
     {
-        self.full
+        self.entries.len() >= self.limit as usize
     }
 
     /// The entries so far, by rising first.
     pub fn entries(&self) -> &[Entry]
         ensures { result.now ≡ self.now.entries }
     {
-        &self.buckets.entries
+        &self.entries
     }
 
     /// A step of the thread, later than those before, read this word as `source` had written it: the pair's entry now
     /// ends at this step, or the pair has a new entry at the end.
-    #[inline(always)]
     #[tactic(auto, using(crate::proofs::Noted::logs_read))]
     pub fn saw(&mut self, word: u16, source: Tag, step: u32)
         requires word { word < self.old.words }
@@ -86,9 +83,14 @@ impl DepLog {
         // Where the entries were the log of some accesses, they are their log with this read added.
         ensures logs { LogsRead word source step self.old.entries self.new.entries }
     {
-        if self.buckets.note(word, source, step) {
-            self.full = self.buckets.entries.len() >= self.limit as usize;
-        }
+        note(
+            &mut self.entries,
+            &mut self.heads,
+            &mut self.older,
+            word,
+            source,
+            step,
+        );
     }
 
     /// The log of the thread, which took so many memory steps, finished so many instructions, ended so, and took these
@@ -98,6 +100,6 @@ impl DepLog {
         requires taken { length taken.items ≤ 65536 }
         ensures { result ≡ record { entries = self.entries; steps = steps; instr = instr; end = end; taken = taken.items } }
     {
-        ThreadLog::new(self.buckets.entries, steps, instr, end, taken)
+        ThreadLog::new(self.entries, steps, instr, end, taken)
     }
 }
