@@ -83,3 +83,12 @@ impl ThreadLog {
         (self.entries, self.steps, self.instr, self.end, self.taken)
     }
 }
+
+// A log moves from its thread to the one that waits for it.
+fn crosses(log: ThreadLog) -> ThreadLog {
+    is_moved(log)
+}
+
+fn is_moved<T: Send>(value: T) -> T {
+    value
+}

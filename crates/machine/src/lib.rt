@@ -2,6 +2,7 @@
 #![tactic(auto)]
 
 mod cores;
+mod crossing;
 mod image;
 mod image_fault;
 mod image_writing;
