@@ -20,14 +20,14 @@ either_true : (a b : Bool) → (a || b) ≡ true → (a ≡ true) ⊎ (b ≡ tru
 either_true true b h = inl refl
 either_true false b h = inr h
 
-tag_holds : (bits : ℕ) → is_tag bits ≡ true → IsTag bits
+pub tag_holds : (bits : ℕ) → is_tag bits ≡ true → IsTag bits
 tag_holds bits h = go (either_true (eqb bits 0) (leb (2 ^ 28) bits && ltb 0 (bits % 2 ^ 28)) h)
   where
     go : (eqb bits 0 ≡ true) ⊎ ((leb (2 ^ 28) bits && ltb 0 (bits % 2 ^ 28)) ≡ true) → IsTag bits
     go (inl e) = inl (eqb-true bits 0 e)
     go (inr e) = let both = and_parts (leb (2 ^ 28) bits) (ltb 0 (bits % 2 ^ 28)) e in inr (leb-true (2 ^ 28) bits both.0, ltb-true 0 (bits % 2 ^ 28) both.1)
 
-tag_tested : (bits : ℕ) → IsTag bits → is_tag bits ≡ true
+pub tag_tested : (bits : ℕ) → IsTag bits → is_tag bits ≡ true
 tag_tested bits (inl e) = ap (λ (b : Bool). b || (leb (2 ^ 28) bits && ltb 0 (bits % 2 ^ 28))) (eq-eqb bits 0 e)
 tag_tested bits (inr h) =
     let both = and_from (leb (2 ^ 28) bits) (ltb 0 (bits % 2 ^ 28)) (le-leb (2 ^ 28) bits h.0) (lt-ltb 0 (bits % 2 ^ 28) h.1) in or_right (eqb bits 0) _ both
@@ -36,7 +36,7 @@ tag_tested bits (inr h) =
     or_right true b e = refl
     or_right false b e = e
 
-writer_fits : (bits : ℕ) → bits < 2 ^ 32 → IsTag bits → IsWriter (writer_of bits)
+pub writer_fits : (bits : ℕ) → bits < 2 ^ 32 → IsTag bits → IsWriter (writer_of bits)
 writer_fits zero lt h = tt
 writer_fits (suc n) lt (inl e) = absurd (omega (arith, e))
 writer_fits (suc n) lt (inr h) = record { thread = omega (arith, lt); first = h.1; last = omega arith }
