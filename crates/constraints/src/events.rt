@@ -69,7 +69,8 @@ fn writers(alloc: Global, tags: &[Tag]) -> Result<Vec<Event>, Memory>
 
 /// The log's events, by thread and then by number.
 pub fn list_events(alloc: Global, log: &RunLog) -> Result<Vec<Event>, Memory>
-    ensures { IfOk result (λ events. events.items ≡ event_list log.now) }
+    ensures rules { IsWellFormed log.now }
+    ensures value { IfOk result (λ events. events.items ≡ event_list log.now) }
 {
     let mut tags = mentioned(alloc, log)?;
     tags.sort_unstable();

@@ -9,8 +9,8 @@ use Rattle.constraints.specs.Positions.{event_list}
 use Rattle.constraints.proofs.Listing.{sorted_tags}
 use Rattle.constraints.proofs.events.list_events.Goals as goal
 
-pub returns : goal.returns
-returns c =
+pub returns-clause-value : goal.returns-clause-value
+returns-clause-value c =
     let d = dedup_is (λ (a b : Tag). eqb (bits_of a) (bits_of b)) c.sort_unstable.new.self.items c.dedup.new.self.items c.dedup.ensures.filtered in
     let P : List Tag → Type 0 = λ xs. IsPermutation xs c.sort_unstable.new.self.items in
     let s = sorted_tags c.args.log.now c.in_ok-tags.ensures.rules c.sort_unstable.new.self.items (subst P c.in_ok-tags.ensures.value c.sort_unstable.ensures.permutation) c.sort_unstable.ensures.sorted in
