@@ -1,0 +1,12 @@
+pub mod Turning
+pub mod Indices
+pub mod FirstOf
+pub mod Entries
+pub mod Faultless
+pub mod Told
+pub mod Saying
+pub mod Laying
+pub mod Ranking
+pub mod Stages
+pub mod Verdicts
+pub mod Openings

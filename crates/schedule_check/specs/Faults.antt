@@ -1,5 +1,5 @@
 -- The faults of an order of a log's events, and the first of them.
-use Rattle.std.specs.Prelude.{ℕ, suc, Bool, not, ◌&&◌, cond, eqb, nat_lt, nat_le, Option, Some, None, List, [], ◌∷◌, length, map, take, slice_index_or, position}
+use Rattle.std.specs.Prelude.{◌≡◌, ℕ, suc, Bool, not, ◌&&◌, cond, eqb, nat_lt, nat_le, Option, Some, None, List, [], ◌∷◌, length, map, take, slice_index_or, position}
 use Rattle.std.specs.List.{list_any, flat_map, enumerate_from, position_or_len, range_with_len}
 use Rattle.std.specs.Option.{option_or, option_map}
 use Rattle.light_base.specs.declared.tag.Event.{Event}
@@ -28,6 +28,10 @@ number_of Final = 7
 
 abbrev pub fault : OrderKind → ℕ → ℕ → OrderFault
 fault kind i j = record { kind = kind; i = i; j = j }
+
+-- the verdict tells this fault
+abbrev pub IsFault : Verdict → OrderKind → ℕ → ℕ → Type 0
+IsFault answer kind i j = answer ≡ verdict.Fault (fault kind i j)
 
 -- the log's entries, thread after thread, each with its thread's number. An entry is told by its number in this list
 abbrev pub entries_of : Log → List (ℕ × Entry)

@@ -1,7 +1,13 @@
 //! Checks an order of a log's events: whether it respects the log, and else its first fault.
 #![tactic(auto)]
 
+mod checking;
+mod events;
 pub mod examples;
 mod faults;
+mod finals;
+mod ranks;
+mod turns;
 
+pub use checking::check;
 pub use faults::{OrderFault, OrderKind, Verdict};
