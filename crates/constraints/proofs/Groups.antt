@@ -1,20 +1,25 @@
 -- How many events and sources a log has, and the groups of a word's sources.
-use Rattle.std.proofs.Common.{◌≡◌, ℕ, ◌+◌, ◌<◌, ◌≤◌, true, false, ltb, leb, List, length, get_or, sym, ◌∙◌, ap, subst, arith, inl, inr, ◌⊎◌}
-use Rattle.std.specs.Prelude.{◌↔◌}
-use Rattle.std.specs.List.{range_with_len}
-use Rattle.std.specs.List.Sorted.{IsPartitionedBy}
-use Rattle.std.proofs.lemmas.Bool.{cases_lt, ltb-true, lt-ltb, le-ltb, le-leb, lt-leb, both_ways}
+use Rattle.replay_model.specs.WellFormed.{IsWellFormed}
+use Rattle.light_base.specs.declared.tag.Event.{Event}
+use Rattle.std.proofs.Common.{◌≡◌, ℕ, ◌+◌, ◌<◌, ◌≤◌, true, false, ltb, leb, List, length, get_or, sym, ◌∙◌, ap, subst, arith, inl, inr, ◌⊎◌, Bool, suc, ◌^◌, ◌∷◌, [], refl}
+use Rattle.std.specs.Prelude.{◌↔◌, Contains}
+use Rattle.std.specs.List.{range_with_len, count_by}
+use Rattle.std.specs.List.Sorted.{IsPartitionedBy, IsPartitionPoint}
+use Rattle.std.proofs.lemmas.Bool.{cases_lt, ltb-true, lt-ltb, le-ltb, le-leb, lt-leb, both_ways, cases_Bool}
 use Rattle.std.proofs.lemmas.List.{length-map, get_or_default}
 use Rattle.std.proofs.lemmas.List.Sums.{length-filter, count_by-le-length}
-use Rattle.std.proofs.lemmas.List.FromFn.{length-range_with_len}
+use Rattle.std.proofs.lemmas.List.FromFn.{length-range_with_len, length-map-range_with_len, get_or-map-range_with_len}
 use Rattle.std.proofs.lemmas.List.Elements.{Contains-get_or, filter_agree}
 use Rattle.replay_model.specs.Logs.{Log}
-use Rattle.constraints.specs.Positions.{thread_numbers, events_of_thread, event_list, counts_of, event_at}
+use Rattle.constraints.specs.Positions.{thread_numbers, events_of_thread, event_list, counts_of, no_event, event_at}
 use Rattle.constraints.specs.Constraints.{is_source_of, sources_of, group_of}
+use Rattle.constraints.specs.Building.{started_before, starts_of}
 use Rattle.constraints.specs.Laws.{LogsAreSmall, SourcesAreGrouped}
 use Rattle.constraints.proofs.Listed.{Before, before_from, of_list, event_there, event_taken}
-use Rattle.constraints.proofs.Points.{count-point, count-more, count-none, count-all}
+use Rattle.constraints.proofs.Points.{count-point, count-more, count-none, count-all, count-yes, count-no, thread-partitioned}
 use Rattle.constraints.proofs.Placing.{events_few}
+use Rattle.constraints.proofs.Members.{Rising, contains_here, contains_next}
+use Rattle.constraints.proofs.Listing.{list-listed}
 use Rattle.constraints.proofs.Rivals.{sources-rising}
 use Rattle.constraints.proofs.Shapes.{counts-sum}
 use Rattle.constraints.proofs.Sources.{of_sources}
@@ -112,3 +117,58 @@ sources_are_grouped log word formed = record { first = first; next = next_group 
         let (m, h) = of_sources log word p c in
         let k : (event_at log p).thread < length log.threads = (event_taken log formed (event_at log p) (of_list log (event_at log p) (event_there log p m))).thread in
         le-leb (event_at log p).thread t (omega (arith, l, k)))
+
+-- numbers that rise pass the test to be below a bound at first
+pub rising-partitioned : (positions : List ℕ) (bound : ℕ) → Rising positions → IsPartitionedBy (λ p. ltb p bound) positions
+rising-partitioned positions bound h i j d l m t = go (cases_lt i j)
+  where
+    go : (i < j) ⊎ (j ≤ i) → ltb (get_or positions i d) bound ≡ true
+    go (inl s) =
+        let a = h i j d s m in
+        let b = ltb-true (get_or positions j d) bound t in
+        lt-ltb (get_or positions i d) bound (omega (arith, a, b))
+    go (inr s) = let q : j ≡ i = omega (arith, l, s) in let P : ℕ → Type 0 = λ n. ltb (get_or positions n d) bound ≡ true in subst P q t
+
+-- a position is below the start of a thread exactly where its event is of an earlier one
+start-test : (log : Log) (t p : ℕ) → p < length (event_list log) → ltb p (started_before (event_list log) t) ≡ ltb (event_at log p).thread t
+start-test log t p l = go (cases_lt p (started_before (event_list log) t))
+    (count-point (λ (e : Event). ltb e.thread t) (event_list log) (thread-partitioned (event_list log) t (list-listed log)))
+  where
+    go : (p < started_before (event_list log) t) ⊎ (started_before (event_list log) t ≤ p) →
+        IsPartitionPoint (λ (e : Event). ltb e.thread t ≡ true) (λ (e : Event). ltb e.thread t ≡ false) (event_list log) (started_before (event_list log) t) → ltb p (started_before (event_list log) t) ≡ ltb (event_at log p).thread t
+    go (inl m) (low, high) = lt-ltb p (started_before (event_list log) t) m ∙ sym (low p no_event (omega arith) m)
+    go (inr m) (low, high) = le-ltb p (started_before (event_list log) t) m ∙ sym (high p no_event m l)
+
+agree : {X : Type 0} (p q : X → Bool) (xs : List X) → ((x : X) → Contains xs x → p x ≡ q x) → count_by p xs ≡ count_by q xs
+agree p q [] h = refl
+agree p q (x ∷ xs) h = go (cases_Bool (p x)) (agree p q xs (λ y c. h y (contains_next x xs y c)))
+  where
+    go : (p x ≡ true) ⊎ (p x ≡ false) → count_by p xs ≡ count_by q xs → count_by p (x ∷ xs) ≡ count_by q (x ∷ xs)
+    go (inl t) ih = count-yes p x xs t ∙ ap suc ih ∙ sym (count-yes q x xs (sym (h x (contains_here x xs)) ∙ t))
+    go (inr t) ih = count-no p x xs t ∙ ih ∙ sym (count-no q x xs (sym (h x (contains_here x xs)) ∙ t))
+
+-- so a group begins and ends where the threads' starts are passed
+pub group-begin : (log : Log) (word t n m : ℕ) (starts row : List ℕ) → n ≡ t → starts ≡ starts_of (event_list log) (length log.threads) → t ≤ length log.threads → row ≡ sources_of log word →
+    m ≡ count_by (λ p. ltb p (get_or starts n 0)) row → m ≡ (group_of log word t).0
+group-begin log word t n m starts row q s l r e =
+    let x : get_or starts n 0 ≡ started_before (event_list log) t = ap (λ xs. get_or xs n 0) s ∙ ap (λ k. get_or (starts_of (event_list log) (length log.threads)) k 0) q ∙
+    get_or-map-range_with_len (started_before (event_list log)) 0 (length log.threads + 1) t t 0 (omega (arith, l)) (omega arith) in
+    e ∙ ap (count_by (λ p. ltb p (get_or starts n 0))) r ∙ ap (λ k. count_by (λ p. ltb p k) (sources_of log word)) x ∙
+    agree (λ p. ltb p (started_before (event_list log) t)) (λ p. ltb (event_at log p).thread t) (sources_of log word) (λ p c. start-test log t p (of_sources log word p c).0)
+
+pub group-end : (log : Log) (word t n m : ℕ) (starts row : List ℕ) → n ≡ t → starts ≡ starts_of (event_list log) (length log.threads) → t < length log.threads → row ≡ sources_of log word →
+    m ≡ count_by (λ p. ltb p (get_or starts (n + 1) 0)) row → m ≡ (group_of log word t).1
+group-end log word t n m starts row q s l r e = group-begin log word (t + 1) (n + 1) m starts row (ap (λ k. k + 1) q) s (omega arith) r e ∙ sym (next_group log word t)
+
+pub starts-long : (log : Log) (starts : List ℕ) → starts ≡ starts_of (event_list log) (length log.threads) → length starts ≡ length log.threads + 1
+starts-long log starts s = ap length s ∙ length-map-range_with_len (started_before (event_list log)) 0 (length log.threads + 1)
+
+pub row-rising : (log : Log) (word : ℕ) (row : List ℕ) → row ≡ sources_of log word → Rising row
+row-rising log word row r = let P : List ℕ → Type 0 = λ xs. Rising xs in subst P (sym r) (sources-rising log word)
+
+pub row-few : (log : Log) (word : ℕ) (row : List ℕ) → IsWellFormed log → row ≡ sources_of log word → length row < 2 ^ 32
+row-few log word row formed r =
+    let a = (logs_are_small log formed).sources word in
+    let b = (logs_are_small log formed).few in
+    let c : length row ≡ length (sources_of log word) = ap length r in
+    omega (arith, a, b, c)

@@ -19,4 +19,5 @@ pub mod Cuts
 pub mod Rowing
 pub mod LastRows
 pub mod Groups
+pub mod Parts
 pub mod WorkedExamples

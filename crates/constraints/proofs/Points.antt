@@ -8,6 +8,7 @@ use Rattle.std.proofs.lemmas.List.Sums.{sum_by-cons, sum_by-le-sum_by}
 use Rattle.std.proofs.lemmas.List.Elements.{Contains-get_or}
 use Rattle.light_base.specs.declared.tag.Event.{Event}
 use Rattle.constraints.specs.Positions.{IsListed}
+use Rattle.constraints.specs.Building.{started_before}
 use Rattle.constraints.proofs.Members.{contains_next, contains_here}
 use Rattle.constraints.proofs.Listed.{Before}
 use Rattle.constraints.proofs.Listing.{before-is}
@@ -97,3 +98,7 @@ count-none p xs h = none-count p xs (λ k d l. h (get_or xs k d) (Contains-get_o
 pub count-all : {X : Type 0} (p : X → Bool) (xs : List X) → ((x : X) → Contains xs x → p x ≡ true) → count_by p xs ≡ length xs
 count-all p [] h = refl
 count-all p (x ∷ xs) h = count-yes p x xs (h x (contains_here x xs)) ∙ ap suc (count-all p xs (λ y c. h y (contains_next x xs y c)))
+
+pub starts_rise : (events : List Event) (t : ℕ) → started_before events t ≤ started_before events (t + 1)
+starts_rise events t = count-more (λ (e : Event). ltb e.thread t) (λ (e : Event). ltb e.thread (t + 1)) events
+    (λ e h. let l = ltb-true e.thread t h in lt-ltb e.thread (t + 1) (omega (arith, l)))

@@ -1,5 +1,5 @@
 -- What the parts of a problem are made of: the tags that a log names, its entries by positions, and rows of numbers.
-use Rattle.std.specs.Prelude.{◌≡◌, ℕ, ◌+◌, Bool, false, cond, not, ◌&&◌, eqb, nat_lt, Option, Some, None, is_some, option_map, IfSome, Contains, List, [], ◌∷◌, ◌++◌, length, map, slice_index_or}
+use Rattle.std.specs.Prelude.{◌≡◌, ℕ, ◌+◌, ◌-◌, Bool, false, cond, not, ◌&&◌, eqb, nat_lt, Option, Some, None, is_some, option_map, IfSome, Contains, List, [], ◌∷◌, ◌++◌, length, map, slice_index_or}
 use Rattle.std.specs.List.{flat_map, range_with_len, count_by, AllPairs}
 use Rattle.std.specs.Ordering.{nat_cmp, ordering_then, is_le}
 use Rattle.std.specs.declared.cmp.Ordering.{Ordering}
@@ -32,6 +32,10 @@ started_before events t = count_by (λ (e : Event). nat_lt e.thread t) events
 -- where the events of each thread begin, and the number of events at the end
 abbrev pub starts_of : List Event → ℕ → List ℕ
 starts_of events threads = map (started_before events) (range_with_len 0 (threads + 1))
+
+-- the number of events of each thread
+abbrev pub event_counts : List Event → ℕ → List ℕ
+event_counts events threads = map (λ t. started_before events (t + 1) - started_before events t) (range_with_len 0 threads)
 
 -- an entry of thread t by positions in a list of events
 abbrev pub placed_in : List Event → ℕ → Entry → Placed

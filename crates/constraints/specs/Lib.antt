@@ -2,5 +2,6 @@ pub mod Positions
 pub mod Constraints
 pub mod Rows
 pub mod Building
+pub mod Problems
 pub mod Laws
 pub mod Examples

@@ -6,7 +6,7 @@ ghost use Rattle.replay_model.specs.Logs.{first_event, last_event};
 ghost use Rattle.replay_model.specs.Orders.{place};
 ghost use Rattle.replay_model.specs.WellFormed.{IsWellFormed};
 ghost use Rattle.constraints.specs.Positions.{event_list, is_before, IsListed};
-ghost use Rattle.constraints.specs.Building.{mentioned_by, mentioned_tags, started_before, starts_of};
+ghost use Rattle.constraints.specs.Building.{mentioned_by, mentioned_tags, event_counts, started_before, starts_of};
 
 use dep_log::{Entry, RunLog};
 use light_base::{Event, Memory, Tag};
@@ -117,4 +117,19 @@ pub fn thread_starts(alloc: Global, threads: u8, events: &[Event]) -> Result<Vec
         starts.push(thread_start(events, t))?;
     }
     Ok(starts)
+}
+
+/// The number of events of each thread.
+#[tactic(auto, using(crate::proofs::Naming::map_range_more))]
+pub fn thread_counts(alloc: Global, threads: u8, events: &[Event]) -> Result<Vec<u32>, Memory>
+    requires threads { threads ≤ 15 }
+    requires order { IsListed events.now }
+    requires small { length events.now < 2 ^ 32 }
+    ensures { IfOk result (λ counts. counts.items ≡ event_counts events.now threads) }
+{
+    let mut counts = Vec::with_capacity(alloc, usize::from(threads))?;
+    for t in 0..threads {
+        counts.push(thread_start(events, t + 1) - thread_start(events, t))?;
+    }
+    Ok(counts)
 }

@@ -42,6 +42,14 @@ impl Rows {
         Rows { items, starts }
     }
 
+    /// How many rows there are.
+    #[tactic(auto, using(crate::proofs::RowCuts::row_rules))]
+    pub fn len(&self) -> usize
+        ensures { result ≡ length self.now }
+    {
+        self.starts.len() - 1
+    }
+
     /// Row i.
     #[tactic(auto, using(crate::proofs::RowCuts::row_rules))]
     pub fn row(&self, i: usize) -> &[u32]
