@@ -1,5 +1,6 @@
 #!/usr/bin/env python3
-"""How fast `light run` plays: local instructions and memory steps per second.
+"""How fast `light run` plays: local instructions and memory steps per second; and how long `light show` takes for the
+largest log.
 
 Run it after `make run`, which builds the program:  python3 bench/speed.py [path of the program]
 It is no part of the gate.
@@ -66,6 +67,33 @@ CASES = [
 ]
 
 
+def largest_log(words):
+    """The largest log, with entries of so many words in turn: docs/LOG.md says how it is spelled."""
+    out = b"LLG2" + bytes([15]) + struct.pack(">H", 4096) + bytes(32)
+    out += struct.pack(">III", 268_435_455, 1_073_741_824, 16_384)
+    out += struct.pack(">BIIIII", 0, 0, 100_000, 100_000, 16_384, 65_536) * 15
+    out += b"".join(struct.pack(">I", (1 << 28) + 1 + word) for word in range(4096))
+    out += b"".join(
+        struct.pack(">HIII", i % words, ((1 + i % 15) << 28) + 1 + i, 2 * i + 1, 2 * i + 2) for i in range(16_384)
+    ) * 15
+    return out + struct.pack(">65536I", *range(65_536)) * 15
+
+
+def show_logs(program, folder):
+    """How long the largest log takes to be shown, and to be refused for one byte more."""
+    path = os.path.join(folder, "bench.log")
+    for words in (1, 7, 4096):
+        for more in (b"", b"!"):
+            with open(path, "wb") as file:
+                file.write(largest_log(words) + more)
+            before = resource.getrusage(resource.RUSAGE_CHILDREN)
+            done = subprocess.run([program, "show", path], stdout=subprocess.DEVNULL, stderr=subprocess.PIPE, text=True)
+            after = resource.getrusage(resource.RUSAGE_CHILDREN)
+            seconds = after.ru_utime + after.ru_stime - before.ru_utime - before.ru_stime
+            told = done.stderr.strip() or "shown"
+            print(f"the largest log, entries of {words} words in turn: {seconds:.3f} s of processor time ({told})")
+
+
 def main():
     program = sys.argv[1] if len(sys.argv) > 1 else PROGRAM
     with tempfile.TemporaryDirectory() as folder:
@@ -78,6 +106,7 @@ def main():
             seconds = time.perf_counter() - before
             first = (done.stdout.splitlines() or [done.stderr.strip()])[0]
             print(f"{name}: {seconds:.3f} s, {count / seconds / 1e6:.1f} million a second ({first})")
+        show_logs(program, folder)
     peak = resource.getrusage(resource.RUSAGE_CHILDREN).ru_maxrss
     print(f"most memory: {peak / 1024:.0f} MiB")
 
