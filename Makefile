@@ -11,6 +11,8 @@ run:
 try:
 	@tools/example try $(EXAMPLE)
 
-# The gate: proves every crate, tries the must-fail edits, runs the tests and the program.
+# The gate: proves every crate, tries the must-fail edits, runs the tests and the program. Before it, the examples that are
+# also samples are compared with them.
 test:
+	@tools/samples
 	rt ci
