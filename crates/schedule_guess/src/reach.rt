@@ -11,10 +11,11 @@ use crate::writers::{Writer, Writers};
 use order_judge::Read;
 use std::alloc::{AllocError, Global};
 
-// How often nodes are visited before the guess gives up. Logs of histories ask for fewer than eight visits a node.
-const VISITS: u64 = 100_000;
+// How many looks at nodes, at what they write and at added edges there are before the guess gives up. Logs of histories ask
+// for some ten a node.
+const LOOKS: u64 = 100_000;
 
-const VISITS_A_NODE: u64 = 64;
+const LOOKS_A_NODE: u64 = 64;
 
 /// The clock of a node tells for each chain the least node of it that the node leads to.
 #[derive(Drop)]
@@ -25,8 +26,8 @@ pub struct Reach {
     links: Links,
     queue: Queue,
     fronts: Clock,
-    // How many visits are left.
-    visits: u64,
+    // How many looks are left.
+    looks: u64,
 }
 
 impl Reach {
@@ -39,7 +40,7 @@ impl Reach {
             links: Links::new(alloc, nodes as usize)?,
             queue: Queue::new(alloc, nodes as usize)?,
             fronts: *shape.chains.starts(),
-            visits: VISITS + VISITS_A_NODE * u64::from(nodes),
+            looks: LOOKS + LOOKS_A_NODE * u64::from(nodes),
         };
         reach.settle(Sweep::new(alloc, shape)?, shape)?;
         reach.keep();
@@ -158,6 +159,8 @@ impl Reach {
     // Carries the clock of a node on to those before it, and does what it says of the words that the node writes.
     fn visit(&mut self, shape: &Shape, node: u32) -> Result<(), Stop> {
         let clock = self.clocks.get(node);
+        let writers = shape.writers.at(node);
+        self.looks = self.looks.saturating_sub(1 + writers.len() as u64);
         if let Some(before) = shape.chains.before(node) {
             self.pull(shape, before, &clock)?;
         }
@@ -167,10 +170,11 @@ impl Reach {
         let mut link = self.links.latest(node);
         for _ in 0..self.links.len() {
             let Some(edge) = link else { break };
+            self.looks = self.looks.saturating_sub(1);
             self.pull(shape, edge.from, &clock)?;
             link = self.links.before(&edge);
         }
-        for writer in shape.writers.at(node) {
+        for writer in writers {
             self.force(shape, writer)?;
         }
         Ok(())
@@ -198,14 +202,16 @@ impl Reach {
         Ok(())
     }
 
-    /// Visits nodes until none waits; `Stuck` where there is a cycle.
+    /// Visits nodes until none waits; `Stuck` where there is a cycle, or no look is left.
     pub fn carry(&mut self, shape: &Shape) -> Result<(), Stop> {
-        for _ in 0..self.visits {
+        for _ in 0..self.looks {
             let Some(node) = self.queue.pop() else {
-                return Ok(())
+                return Ok(());
             };
-            self.visits = self.visits.saturating_sub(1);
             self.visit(shape, node)?;
+            if self.looks == 0 {
+                break;
+            }
         }
         Err(Stop::Stuck)
     }
