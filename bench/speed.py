@@ -1,18 +1,18 @@
 #!/usr/bin/env python3
-"""How fast `light run` plays: local instructions and memory steps per second; and how long `light show` takes for the
-largest log.
+"""How fast `light run` plays: local instructions, memory steps, reads that are logged, and a start.
 
 Run it after `make run`, which builds the program:  python3 bench/speed.py [path of the program]
-It is no part of the gate.
+Each line has the least processor time of some runs. Where valgrind is there, it counts the processor instructions that
+one more memory step costs. It is no part of the gate.
 """
 
 import os
 import resource
+import shutil
 import struct
 import subprocess
 import sys
 import tempfile
-import time
 
 HERE = os.path.dirname(os.path.abspath(__file__))
 PROGRAM = os.path.join(HERE, "..", "crates", "light_cli", "out", "light_cli")
@@ -55,43 +55,67 @@ COMPUTER = [
 ]
 # reads one word and writes another for ever
 COPIER = [("load", 1, 0, 0, 0), ("store", 1, 0, 0, 1), ("jeq", 0, 0, 0, 0)]
+# reads one word for ever
+READER = [("load", 1, 0, 0, 0), ("jeq", 0, 0, 0, 0)]
+# writes a word and reads it for ever, so that each read sees another write
+ECHO = [("store", 1, 0, 0, 0), ("load", 1, 0, 0, 0), ("jeq", 0, 0, 0, 0)]
 # counts up in a word by compare-exchange for ever
 ADDER = [("load", 1, 0, 0, 0), ("addi", 2, 1, 0, 1), ("cas", 1, 0, 2, 0), ("jeq", 0, 0, 0, 0)]
+# copies as COPIER does; its code can put out a value, and never does
+TALKER = [("load", 1, 0, 0, 0), ("store", 1, 0, 0, 1), ("jeq", 0, 0, 0, 0), ("out", 1, 0, 0, 0)]
+# ends at once
+HALTER = [("halt", 0, 0, 0, 0)]
+
+MOST_INSTR = 1_073_741_824
 
 CASES = [
-    ("10,000,000 local instructions, one thread", [0], [COUNTER], (0, 10_000_000, 0), 10_000_000),
-    ("10,000,000 local instructions of many kinds, one thread", [0], [COMPUTER], (0, 10_000_000, 0), 10_000_000),
-    ("1,000,000 memory steps, one thread", [7, 0], [COPIER], (1_000_000, 1_073_741_824, 2), 1_000_000),
-    ("1,000,000 memory steps, ten threads", [7, 0], [COPIER] * 10, (100_000, 1_073_741_824, 2), 1_000_000),
-    ("30,000 memory steps of compare-exchanges, ten threads", [0], [ADDER] * 10, (3_000, 1_073_741_824, 16_384), 30_000),
+    ("60,000,000 local instructions", [0], [COUNTER], (0, 60_000_000, 0), 60_000_000),
+    ("60,000,000 local instructions of many kinds", [0], [COMPUTER], (0, 60_000_000, 0), 60_000_000),
+    ("1,000,000 loads and stores, one thread", [7, 0], [COPIER], (1_000_000, MOST_INSTR, 2), 1_000_000),
+    ("1,000,000 loads and stores, ten threads", [7, 0], [COPIER] * 10, (100_000, MOST_INSTR, 2), 1_000_000),
+    ("1,000,000 loads and stores of a code with an out", [7, 0], [TALKER], (1_000_000, MOST_INSTR, 2), 1_000_000),
+    ("1,000,000 reads of one word", [0], [READER], (1_000_000, MOST_INSTR, 2), 1_000_000),
+    ("16,384 entries of one word, in 32,768 steps", [0], [ECHO], (32_768, MOST_INSTR, 16_384), 32_768),
+    ("the same steps with one entry", [0], [READER], (32_768, MOST_INSTR, 2), 32_768),
+    ("30,000 steps of compare-exchanges, ten threads", [0], [ADDER] * 10, (3_000, MOST_INSTR, 16_384), 30_000),
+    ("one instruction each of 15 threads, largest limits", [0], [HALTER] * 15, (268_435_455, MOST_INSTR, 16_384), 15),
 ]
 
-
-def largest_log(words):
-    """The largest log, with entries of so many words in turn: docs/LOG.md says how it is spelled."""
-    out = b"LLG2" + bytes([15]) + struct.pack(">H", 4096) + bytes(32)
-    out += struct.pack(">III", 268_435_455, 1_073_741_824, 16_384)
-    out += struct.pack(">BIIIII", 0, 0, 100_000, 100_000, 16_384, 65_536) * 15
-    out += b"".join(struct.pack(">I", (1 << 28) + 1 + word) for word in range(4096))
-    out += b"".join(
-        struct.pack(">HIII", i % words, ((1 + i % 15) << 28) + 1 + i, 2 * i + 1, 2 * i + 2) for i in range(16_384)
-    ) * 15
-    return out + struct.pack(">65536I", *range(65_536)) * 15
+RUNS = 5
 
 
-def show_logs(program, folder):
-    """How long the largest log takes to be shown, and to be refused for one byte more."""
-    path = os.path.join(folder, "bench.log")
-    for words in (1, 7, 4096):
-        for more in (b"", b"!"):
-            with open(path, "wb") as file:
-                file.write(largest_log(words) + more)
-            before = resource.getrusage(resource.RUSAGE_CHILDREN)
-            done = subprocess.run([program, "show", path], stdout=subprocess.DEVNULL, stderr=subprocess.PIPE, text=True)
-            after = resource.getrusage(resource.RUSAGE_CHILDREN)
-            seconds = after.ru_utime + after.ru_stime - before.ru_utime - before.ru_stime
-            told = done.stderr.strip() or "shown"
-            print(f"the largest log, entries of {words} words in turn: {seconds:.3f} s of processor time ({told})")
+def processor_time():
+    used = resource.getrusage(resource.RUSAGE_CHILDREN)
+    return used.ru_utime + used.ru_stime
+
+
+def measured(command):
+    """The least processor time of some runs in seconds, and the first line that is put out."""
+    least = None
+    for _ in range(RUNS):
+        before = processor_time()
+        done = subprocess.run(command, capture_output=True, text=True)
+        used = processor_time() - before
+        least = used if least is None else min(least, used)
+    return least, (done.stdout.splitlines() or [done.stderr.strip()])[0]
+
+
+def instructions(command):
+    """The processor instructions of a run, as callgrind counts them."""
+    command = ["valgrind", "--tool=callgrind", "--callgrind-out-file=/dev/null", *command]
+    done = subprocess.run(command, capture_output=True, text=True)
+    line = next(line for line in done.stderr.splitlines() if "refs:" in line)
+    return int(line.split(":")[1].replace(",", ""))
+
+
+def step_cost(program, path, words, code, threads):
+    """How many processor instructions one more memory step of a thread costs."""
+    with open(path, "wb") as file:
+        file.write(image(words, [code] * threads))
+    counts = [
+        instructions([program, "run", path, str(steps // threads), str(MOST_INSTR), "2"]) for steps in (20_000, 120_000)
+    ]
+    return (counts[1] - counts[0]) / 100_000
 
 
 def main():
@@ -101,12 +125,16 @@ def main():
         for name, words, threads, limits, count in CASES:
             with open(path, "wb") as file:
                 file.write(image(words, threads))
-            before = time.perf_counter()
-            done = subprocess.run([program, "run", path, *map(str, limits)], capture_output=True, text=True)
-            seconds = time.perf_counter() - before
-            first = (done.stdout.splitlines() or [done.stderr.strip()])[0]
-            print(f"{name}: {seconds:.3f} s, {count / seconds / 1e6:.1f} million a second ({first})")
-        show_logs(program, folder)
+            seconds, first = measured([program, "run", path, *map(str, limits)])
+            print(f"{name}: {seconds * 1e3:.1f} ms, {count / max(seconds, 1e-9) / 1e6:.1f} million a second ({first})")
+        if shutil.which("valgrind"):
+            for name, words, code, threads in [
+                ("load or store, one thread", [7, 0], COPIER, 1),
+                ("load or store, ten threads", [7, 0], COPIER, 10),
+                ("load or store of a code with an out", [7, 0], TALKER, 1),
+                ("read of one word", [0], READER, 1),
+            ]:
+                print(f"{name}: {step_cost(program, path, words, code, threads):.1f} processor instructions a step")
     peak = resource.getrusage(resource.RUSAGE_CHILDREN).ru_maxrss
     print(f"most memory: {peak / 1024:.0f} MiB")
 
