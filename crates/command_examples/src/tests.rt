@@ -5,6 +5,7 @@ use std::test::Fail;
 
 mod contents;
 mod inputs;
+mod logs;
 mod outputs;
 mod recordings;
 mod rows;
@@ -33,6 +34,9 @@ fn commands_end_as_told(rt: HostRuntime) -> Result<(), Fail> {
         inputs::TAKEN.as_slice(),
         inputs::REFUSED.as_slice(),
         inputs::FAULTS.as_slice(),
+        logs::SHOWN.as_slice(),
+        logs::REFUSED.as_slice(),
+        logs::CUT.as_slice(),
     ] {
         for row in table {
             check(&rt, alloc, row)?;

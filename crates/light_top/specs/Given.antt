@@ -6,6 +6,8 @@ use Rattle.light_base.specs.FileMap.{Files}
 use Rattle.machine.specs.Programs.{ProgramValue}
 use Rattle.machine.specs.Inputs.{InputsValue}
 use Rattle.light_top.specs.Images.{ImageValue, as_image, as_text, as_inputs}
+use Rattle.replay_model.specs.Logs.{Log}
+use Rattle.light_top.specs.Logs.{as_log, as_old_log}
 use Rattle.light_top.specs.Statuses.{most_bytes, IsRefusal}
 use Rattle.light_top.specs.declared.words.Command.{Command}
 use Rattle.light_top.specs.declared.words.Command.TheVariants as command
@@ -48,6 +50,14 @@ abbrev pub inputs_in : Files → Option (List ℕ) → ℕ → Result InputsValu
 inputs_in files None threads = Ok (replicate threads [])
 inputs_in files (Some name) threads = numbers_in files name >>= matched threads
 
+-- the log in the file of that name
+abbrev pub log_in : Files → List ℕ → Result Log Status
+log_in files name = file_in files name >>= as_log
+
+-- the log of version 1 in the file of that name
+abbrev pub old_log_in : Files → List ℕ → Result Log Status
+old_log_in files name = file_in files name >>= as_old_log
+
 -- the task of a command
 abbrev pub given : Command → Files → Result Task Status
 given (command.Run image limits inputs) files = do
@@ -64,6 +74,12 @@ given (command.Asm text image) files = do
 given (command.List image) files = do
   i ← image_in files image
   Ok (task.List i)
+given (command.Show log) files = do
+  l ← log_in files log
+  Ok (task.Show l)
+given (command.Upgrade old log) files = do
+  l ← old_log_in files old
+  Ok (task.Upgrade l log)
 
 -- ---- what is answered of this
 

@@ -1,6 +1,7 @@
 pub mod Words
 pub mod Statuses
 pub mod Images
+pub mod Logs
 pub mod Given
 pub mod Outputs
 pub mod Tasks

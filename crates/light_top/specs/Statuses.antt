@@ -7,6 +7,8 @@ use Rattle.machine.specs.Faults.{number_of_kind}
 use Rattle.machine.specs.InputTexts.{number_of_kind as number_of_input_kind}
 use Rattle.assembler.specs.declared.asm_fault.AsmKind.TheVariants as asm_kind
 use Rattle.assembler.specs.Assembled.{number_of_kind as number_of_asm_kind}
+use Rattle.log_file.specs.declared.log_fault.LogKind.TheVariants as log_kind
+use Rattle.log_file.specs.LogFaults.{number_of_kind as number_of_log_kind}
 use Rattle.light_top.specs.declared.status.Status.{Status}
 use Rattle.light_top.specs.declared.status.Status.TheVariants as status
 
@@ -18,6 +20,7 @@ code_of status.StoreFault = 3
 code_of (status.TooLong taken) = 4
 code_of (status.ImageRefused fault) = 5
 code_of (status.AsmRefused fault) = 6
+code_of (status.LogRefused fault) = 7
 code_of status.NoSchedule = 9
 code_of status.Spent = 10
 code_of status.SinkFault = 14
@@ -38,6 +41,10 @@ text_line line kind = codes "light: text refused" ++ (codes " line " ++ decimal 
 abbrev pub input_line : ℕ → List ℕ
 input_line kind = codes "light: inputs refused" ++ (codes " kind " ++ decimal kind) ++ 10 ∷ []
 
+-- a log was refused: kind K at A
+abbrev pub log_line : ℕ → ℕ → List ℕ
+log_line kind at = codes "light: log refused" ++ (codes " kind " ++ decimal kind) ++ (codes " at " ++ decimal at) ++ 10 ∷ []
+
 -- what is told of a status
 abbrev pub status_line : Status → List ℕ
 status_line status.Ok = []
@@ -46,6 +53,7 @@ status_line status.StoreFault = codes "light: store fault" ++ 10 ∷ []
 status_line (status.TooLong taken) = codes "light: too long" ++ 10 ∷ []
 status_line (status.ImageRefused fault) = refusal_line (number_of_kind fault.kind) fault.thread fault.at
 status_line (status.AsmRefused fault) = text_line fault.line (number_of_asm_kind fault.kind)
+status_line (status.LogRefused fault) = log_line (number_of_log_kind fault.kind) fault.at
 status_line status.NoSchedule = codes "light: no schedule" ++ 10 ∷ []
 status_line status.Spent = codes "light: budget spent" ++ 10 ∷ []
 status_line status.SinkFault = codes "light: output fault" ++ 10 ∷ []
@@ -64,6 +72,7 @@ IsRefusal (status.ImageRefused fault) = fault.kind ≢ kind.Memory
 IsRefusal (status.AsmRefused fault) = fault.kind ≢ asm_kind.Memory
 IsRefusal (status.InputRefused fault) = fault.kind ≢ input_kind.Memory
 IsRefusal (status.WrongInputs program inputs) = program ≢ inputs
+IsRefusal (status.LogRefused fault) = fault.kind ≢ log_kind.Memory
 IsRefusal s = ⊥
 
 -- the statuses of tasks that cannot be done

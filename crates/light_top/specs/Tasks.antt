@@ -8,6 +8,7 @@ use Rattle.machine.specs.Runs.{rounds_of}
 use Rattle.history.specs.Histories.{IsHistory}
 use Rattle.history.specs.HistoryLogs.{log_of_history}
 use Rattle.log_file.specs.Spelling.{spelling}
+use Rattle.log_text.specs.ShowTexts.{show}
 use Rattle.transcript.specs.Transcripts.{transcript_of}
 use Rattle.assembler.specs.Canonical.{canonical}
 use Rattle.light_top.specs.Images.{ImageValue}
@@ -40,6 +41,10 @@ Means (task.Record image log limits inputs) output = IsImage image.bytes image.p
 Means (task.Assemble program image) output = (bytes : List ℕ) × IsImage bytes program × (output ≡ saved image bytes)
 -- the canonical text of the program
 Means (task.List image) output = IsImage image.bytes image.program × (output ≡ printed (canonical image.program))
+-- the text of the log
+Means (task.Show log) output = output ≡ printed (show log)
+-- the log as it is written today
+Means (task.Upgrade log name) output = output ≡ saved name (spelling log)
 
 -- how a task that was given cannot be done, and why
 abbrev pub Fails : Task → Status → Type 0

@@ -81,6 +81,21 @@ list_of (image ∷ []) = do
   Some (command.List image)
 list_of _ = None
 
+-- LOG
+abbrev pub show_of : List (List ℕ) → Option Command
+show_of (log ∷ []) = do
+  log ← name_of log
+  Some (command.Show log)
+show_of _ = None
+
+-- OLD NEW
+abbrev pub upgrade_of : List (List ℕ) → Option Command
+upgrade_of (old ∷ log ∷ []) = do
+  old ← name_of old
+  log ← name_of log
+  Some (command.Upgrade old log)
+upgrade_of _ = None
+
 -- the command is named by the first word, and takes exactly the words shown
 abbrev pub command_of : List (List ℕ) → Option Command
 command_of [] = None
@@ -89,4 +104,6 @@ command_of (verb ∷ rest) =
     else if bytes_eq verb (codes "record") then record_of rest
     else if bytes_eq verb (codes "asm") then asm_of rest
     else if bytes_eq verb (codes "list") then list_of rest
+    else if bytes_eq verb (codes "show") then show_of rest
+    else if bytes_eq verb (codes "upgrade") then upgrade_of rest
     else None

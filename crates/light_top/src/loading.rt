@@ -2,8 +2,9 @@
 ghost use Rattle.std.specs.Prelude.{◌≡◌, ◌≤◌, length, Ok, OnOk, IfOk, IfErr};
 ghost use Rattle.light_top.specs.Statuses.{most_bytes};
 ghost use Rattle.light_top.specs.Images.{as_text, as_inputs};
+ghost use Rattle.light_top.specs.Logs.{as_log, as_old_log};
 ghost use Rattle.light_top.specs.Tasks.{IsMatched};
-ghost use Rattle.light_top.specs.Given.{file_in, image_in, text_in, numbers_in, inputs_in, matched, given, Gives, NotRead, NotGiven};
+ghost use Rattle.light_top.specs.Given.{file_in, image_in, text_in, numbers_in, inputs_in, matched, log_in, old_log_in, given, Gives, NotRead, NotGiven};
 
 use crate::Status;
 use crate::bytes::Bytes;
@@ -11,7 +12,9 @@ use crate::image::Image;
 use crate::task::Task;
 use crate::words::{Command, Name};
 use assembler::{AsmFault, AsmKind, assemble};
+use dep_log::RunLog;
 use light_base::{Memory, Store, StoreFault};
+use log_file::{LogFault, LogKind, read_log, read_old};
 use machine::{InputFault, InputKind, Inputs, Program, read_inputs};
 use std::alloc::Global;
 
@@ -156,6 +159,68 @@ fn load_inputs<S: Store>(
     }
 }
 
+// The log that bytes tell.
+fn read_today(alloc: Global, bytes: &[u8]) -> Result<RunLog, Status>
+    requires { length bytes.now ≤ most_bytes }
+    ensures ok { IfOk result (λ log. as_log bytes.now ≡ Ok log) }
+    ensures err { IfErr result (NotRead (as_log bytes.now)) }
+{
+    match read_log(alloc, bytes) {
+        Ok(log) => Ok(log),
+        Err(
+            LogFault {
+                kind: LogKind::Memory,
+                ..
+            },
+        ) => Err(Status::Memory),
+        Err(fault) => Err(Status::LogRefused(fault)),
+    }
+}
+
+// The log that bytes tell in version 1 of the format.
+fn read_of_old(alloc: Global, bytes: &[u8]) -> Result<RunLog, Status>
+    requires { length bytes.now ≤ most_bytes }
+    ensures ok { IfOk result (λ log. as_old_log bytes.now ≡ Ok log) }
+    ensures err { IfErr result (NotRead (as_old_log bytes.now)) }
+{
+    match read_old(alloc, bytes) {
+        Ok(log) => Ok(log),
+        Err(
+            LogFault {
+                kind: LogKind::Memory,
+                ..
+            },
+        ) => Err(Status::Memory),
+        Err(fault) => Err(Status::LogRefused(fault)),
+    }
+}
+
+// The log in a file.
+fn load_log<S: Store>(alloc: Global, store: &mut S, name: &Name<'_>) -> Result<RunLog, Status>
+    ensures ok { IfOk result (Gives (S.files store.old) (λ files. log_in files name.now)) }
+    ensures err { IfErr result (NotGiven (S.files store.old) (S.sound store.old) (S.faults store.old) (S.faults store.new) (λ files. log_in files name.now)) }
+
+    ensures files { S.files store.new ≡ S.files store.old }
+    ensures sound { S.sound store.new ≡ S.sound store.old }
+    ensures quiet { OnOk result (S.faults store.new ≡ S.faults store.old) }
+{
+    let bytes = load(alloc, store, name)?;
+    read_today(alloc, bytes.as_slice())
+}
+
+// The log of version 1 in a file.
+fn load_old<S: Store>(alloc: Global, store: &mut S, name: &Name<'_>) -> Result<RunLog, Status>
+    ensures ok { IfOk result (Gives (S.files store.old) (λ files. old_log_in files name.now)) }
+    ensures err { IfErr result (NotGiven (S.files store.old) (S.sound store.old) (S.faults store.old) (S.faults store.new) (λ files. old_log_in files name.now)) }
+
+    ensures files { S.files store.new ≡ S.files store.old }
+    ensures sound { S.sound store.new ≡ S.sound store.old }
+    ensures quiet { OnOk result (S.faults store.new ≡ S.faults store.old) }
+{
+    let bytes = load(alloc, store, name)?;
+    read_of_old(alloc, bytes.as_slice())
+}
+
 /// Loads what a command names, and reads it: the task that is to be done. The files stay as they are.
 pub fn take_up<'a, S: Store>(
     alloc: Global,
@@ -208,6 +273,17 @@ pub fn take_up<'a, S: Store>(
         Command::List { image } => {
             let image = load_image(alloc, store, &image)?;
             Ok(Task::List { image })
+        }
+        Command::Show { log } => {
+            let log = load_log(alloc, store, &log)?;
+            Ok(Task::Show { log })
+        }
+        Command::Upgrade { old, log } => {
+            let old = load_old(alloc, store, &old)?;
+            Ok(Task::Upgrade {
+                log: old,
+                name: log,
+            })
         }
     }
 }

@@ -1,9 +1,10 @@
 // How a command ends, as a number and as a line of text.
 ghost use Rattle.std.specs.Prelude.{◌≡◌, IfOk, OnOk, ◌++◌, decimal};
-ghost use Rattle.light_top.specs.Statuses.{code_of, status_line, refusal_line, text_line, input_line};
+ghost use Rattle.light_top.specs.Statuses.{code_of, status_line, refusal_line, text_line, input_line, log_line};
 
 use assembler::AsmFault;
 use light_base::{Memory, put_decimal};
+use log_file::LogFault;
 use machine::{ImageFault, InputFault};
 use std::alloc::Global;
 
@@ -21,6 +22,8 @@ pub enum Status {
     ImageRefused(ImageFault),
     /// The text is not in the grammar, and this is its first line at fault.
     AsmRefused(AsmFault),
+    /// The bytes are no log, and this is the first fault.
+    LogRefused(LogFault),
     /// No order respects the log.
     NoSchedule,
     /// The search for an order has met more dead ends than the budget.
@@ -47,6 +50,7 @@ impl Status {
             Status::TooLong { .. } => 4,
             Status::ImageRefused(_) => 5,
             Status::AsmRefused(_) => 6,
+            Status::LogRefused(_) => 7,
             Status::NoSchedule => 9,
             Status::Spent => 10,
             Status::SinkFault => 14,
@@ -105,6 +109,16 @@ fn put_input_refusal(text: &mut Vec<u8>, kind: u64) -> Result<(), Memory>
     Ok(())
 }
 
+fn put_log_refusal(text: &mut Vec<u8>, kind: u64, at: u64) -> Result<(), Memory>
+    ensures { OnOk result (text.new.items ≡ text.old.items ++ log_line kind at) }
+{
+    text.extend_from_slice(b"light: log refused")?;
+    put_field(text, b" kind ", kind)?;
+    put_field(text, b" at ", at)?;
+    text.push(b'\n')?;
+    Ok(())
+}
+
 /// The line that tells of a status, with its line feed. Of `Ok` nothing is told.
 pub fn status_text(alloc: Global, status: &Status) -> Result<Vec<u8>, Memory>
     ensures { IfOk result (λ text. text.items ≡ status_line status.now) }
@@ -127,6 +141,10 @@ pub fn status_text(alloc: Global, status: &Status) -> Result<Vec<u8>, Memory>
         Status::AsmRefused(fault) => {
             let kind = u64::from(fault.kind.code());
             put_text_refusal(&mut text, u64::from(fault.line), kind)?
+        }
+        Status::LogRefused(fault) => {
+            let kind = u64::from(fault.kind.code());
+            put_log_refusal(&mut text, kind, u64::from(fault.at))?
         }
         Status::NoSchedule => text.extend_from_slice(b"light: no schedule\n")?,
         Status::Spent => text.extend_from_slice(b"light: budget spent\n")?,

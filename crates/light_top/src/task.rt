@@ -13,9 +13,11 @@ use crate::bytes::Bytes;
 use crate::image::Image;
 use crate::output::{Output, Saved};
 use crate::words::Name;
+use dep_log::RunLog;
 use history::Plain;
 use light_base::Memory;
 use log_file::{digest_of, write_log};
+use log_text::show_text;
 use machine::{Inputs, Limits, Program, write_image};
 use recorder::{Gate, Recorded, record};
 use std::alloc::Global;
@@ -46,6 +48,15 @@ pub enum Task<'a> {
     /// To print a program as text.
     List {
         image: Image,
+    },
+    /// To print a log as text.
+    Show {
+        log: RunLog,
+    },
+    /// To save a log as it is written today.
+    Upgrade {
+        log: RunLog,
+        name: Name<'a>,
     },
 }
 
@@ -138,6 +149,17 @@ pub fn perform<'a, R: Threads + Sync, G: Gate>(
         Task::List { image } => {
             let text = Bytes::of(assembler::list(alloc, image.program())?);
             Ok(Output { text, saved: None })
+        }
+        Task::Show { log } => {
+            let text = Bytes::of(show_text(alloc, &log)?);
+            Ok(Output { text, saved: None })
+        }
+        Task::Upgrade { log, name } => {
+            let bytes = Bytes::of(write_log(alloc, &log)?);
+            Ok(Output {
+                text: Bytes::of(Vec::new(alloc)),
+                saved: Some(Saved { name, bytes }),
+            })
         }
     }
 }

@@ -1,6 +1,6 @@
 // The words of the command line.
 ghost use Rattle.std.specs.Prelude.{◌≡◌, ◌<◌, ◌^◌};
-ghost use Rattle.light_top.specs.Words.{is_plain, number_of, name_of, limits_of, inputs_of, texts, run_of, record_of, asm_of, list_of, command_of};
+ghost use Rattle.light_top.specs.Words.{is_plain, number_of, name_of, limits_of, inputs_of, texts, run_of, record_of, asm_of, list_of, show_of, upgrade_of, command_of};
 
 use machine::Limits;
 use std::marker::Model;
@@ -61,6 +61,15 @@ pub enum Command<'a> {
     /// Prints the program of an image as text.
     List {
         image: Name<'a>,
+    },
+    /// Prints a log as text.
+    Show {
+        log: Name<'a>,
+    },
+    /// Saves a log of version 1 as it is written today.
+    Upgrade {
+        old: Name<'a>,
+        log: Name<'a>,
     },
 }
 
@@ -158,6 +167,29 @@ fn list<'a>(words: &'a [String]) -> Option<Command<'a>>
     }
 }
 
+fn show<'a>(words: &'a [String]) -> Option<Command<'a>>
+    ensures { result ≡ show_of (texts words.now) }
+{
+    match words {
+        [log] => Some(Command::Show {
+            log: Name::of(log.as_str())?,
+        }),
+        _ => None,
+    }
+}
+
+fn upgrade<'a>(words: &'a [String]) -> Option<Command<'a>>
+    ensures { result ≡ upgrade_of (texts words.now) }
+{
+    match words {
+        [old, log] => Some(Command::Upgrade {
+            old: Name::of(old.as_str())?,
+            log: Name::of(log.as_str())?,
+        }),
+        _ => None,
+    }
+}
+
 /// The command that the words are, if they are one.
 pub fn read_command<'a>(words: &'a [String]) -> Option<Command<'a>>
     ensures { result ≡ command_of (texts words.now) }
@@ -168,6 +200,8 @@ pub fn read_command<'a>(words: &'a [String]) -> Option<Command<'a>>
             "record" => record(rest),
             "asm" => asm(rest),
             "list" => list(rest),
+            "show" => show(rest),
+            "upgrade" => upgrade(rest),
             _ => None,
         },
         [] => None,

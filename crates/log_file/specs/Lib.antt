@@ -5,3 +5,4 @@ pub mod Schedules
 pub mod Seen
 pub mod Spelling
 pub mod Versions
+pub mod Readings

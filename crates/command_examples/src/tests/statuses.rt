@@ -1,9 +1,10 @@
 // Each status, the number with which the program ends, and its line.
 use assembler::{AsmFault, AsmKind};
 use light_top::Status;
+use log_file::{LogFault, LogKind};
 use machine::{ImageFault, ImageKind, InputFault, InputKind};
 
-pub static STATUSES: [(Status, u8, &str); 10] = [
+pub static STATUSES: [(Status, u8, &str); 13] = [
     (Status::Ok, 0, ""),
     (Status::Usage, 2, "light: usage/"),
     (Status::StoreFault, 3, "light: store fault/"),
@@ -25,6 +26,16 @@ pub static STATUSES: [(Status, u8, &str); 10] = [
         6,
         "light: text refused line 3 kind 7/",
     ),
+    (
+        Status::LogRefused(LogFault {
+            kind: LogKind::Overlap,
+            at: 7_389_550,
+        }),
+        7,
+        "light: log refused kind 10 at 7389550/",
+    ),
+    (Status::NoSchedule, 9, "light: no schedule/"),
+    (Status::Spent, 10, "light: budget spent/"),
     (Status::SinkFault, 14, "light: output fault/"),
     (
         Status::InputRefused(InputFault {

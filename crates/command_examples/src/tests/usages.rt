@@ -15,7 +15,7 @@ pub const NO_COMMAND: Row = Row {
 };
 
 // With one space between two words.
-pub static USAGES: [&str; 33] = [
+pub static USAGES: [&str; 41] = [
     "",
     "run",
     "run i 07 1 1",
@@ -49,4 +49,12 @@ pub static USAGES: [&str; 33] = [
     "run i 1 1 16385",
     "run i 1 1 4294967297",
     "run i 1 1 ",
+    "show",
+    "show ",
+    "show l l",
+    "upgrade o",
+    "upgrade  l",
+    "solve l s 1",
+    "check l s",
+    "replay i l s 1",
 ];
