@@ -3,7 +3,7 @@
 # The shipped example that is assembled and recorded: a name of examples/, as in `make run EXAMPLE=aba`.
 EXAMPLE = lost_update
 
-# Proves and builds the program, assembles the example, records it, and shows its transcript and the size of its log.
+# Proves and builds the program, assembles the example, records it on threads, and shows its transcript and its log.
 run:
 	@tools/example run $(EXAMPLE)
 
