@@ -7,7 +7,9 @@ use Rattle.machine.specs.Programs.{ProgramValue}
 use Rattle.machine.specs.Inputs.{InputsValue}
 use Rattle.light_top.specs.Images.{ImageValue, as_image, as_text, as_inputs}
 use Rattle.replay_model.specs.Logs.{Log}
-use Rattle.light_top.specs.Logs.{as_log, as_old_log}
+use Rattle.light_base.specs.declared.tag.Event.{Event}
+use Rattle.light_top.specs.Logs.{as_log, as_old_log, as_order, logged_print, image_print}
+use Rattle.light_top.specs.Prints.{same_print}
 use Rattle.light_top.specs.Statuses.{most_bytes, IsRefusal}
 use Rattle.light_top.specs.declared.words.Command.{Command}
 use Rattle.light_top.specs.declared.words.Command.TheVariants as command
@@ -58,6 +60,15 @@ log_in files name = file_in files name >>= as_log
 abbrev pub old_log_in : Files → List ℕ → Result Log Status
 old_log_in files name = file_in files name >>= as_old_log
 
+-- the order in the file of that name
+abbrev pub order_in : Files → List ℕ → Result (List Event) Status
+order_in files name = file_in files name >>= as_order
+
+-- a log of the image's program
+abbrev pub of_program : ImageValue → Log → Result Log Status
+of_program image log =
+    if same_print (logged_print log) (image_print image) then Ok log else Err (status.WrongProgram (logged_print log) (image_print image))
+
 -- the task of a command
 abbrev pub given : Command → Files → Result Task Status
 given (command.Run image limits inputs) files = do
@@ -80,6 +91,19 @@ given (command.Show log) files = do
 given (command.Upgrade old log) files = do
   l ← old_log_in files old
   Ok (task.Upgrade l log)
+given (command.Check log schedule) files = do
+  l ← log_in files log
+  order ← order_in files schedule
+  Ok (task.Check l order)
+given (command.Solve log schedule budget) files = do
+  l ← log_in files log
+  Ok (task.Solve l schedule budget)
+given (command.Replay image log schedule budget) files = do
+  i ← image_in files image
+  l ← log_in files log
+  own ← of_program i l
+  Ok (task.Replay i own schedule budget)
+given (command.Arena number) files = Ok (task.Arena number)
 
 -- ---- what is answered of this
 

@@ -2,8 +2,11 @@ pub mod Words
 pub mod Statuses
 pub mod Images
 pub mod Logs
+pub mod Prints
 pub mod Given
 pub mod Outputs
+pub mod Solving
+pub mod Arenas
 pub mod Tasks
 pub mod Outside
 pub mod Delivery

@@ -1,8 +1,14 @@
--- Logs that are read.
-use Rattle.std.specs.Prelude.{ℕ, List, Result, Ok, Err}
+-- Logs and schedules that are read, and what tells the program of a log.
+use Rattle.std.specs.Prelude.{ℕ, List, length, Result, Ok, Err}
+use Rattle.sha2.specs.Sha256.{sha256}
+use Rattle.light_base.specs.declared.tag.Event.{Event}
 use Rattle.replay_model.specs.Logs.{Log}
 use Rattle.log_file.specs.declared.log_fault.LogFault.{LogFault}
 use Rattle.log_file.specs.Readings.{log_today, log_of_old}
+use Rattle.log_file.specs.declared.sched_fault.SchedFault.{SchedFault}
+use Rattle.log_file.specs.Schedules.{schedule_read}
+use Rattle.light_top.specs.Images.{ImageValue}
+use Rattle.light_top.specs.declared.print.Print.{Print}
 use Rattle.light_top.specs.declared.status.Status.{Status}
 use Rattle.light_top.specs.declared.status.Status.TheVariants as status
 
@@ -17,3 +23,18 @@ as_log bytes = log_or_fault (log_today bytes)
 -- the same in version 1 of the format
 abbrev pub as_old_log : List ℕ → Result Log Status
 as_old_log bytes = log_or_fault (log_of_old bytes)
+
+-- the order whose text the bytes are, or their first fault
+abbrev pub order_or_fault : Result (List Event) SchedFault → Result (List Event) Status
+order_or_fault (Ok order) = Ok order
+order_or_fault (Err fault) = Err (status.SchedRefused fault)
+
+abbrev pub as_order : List ℕ → Result (List Event) Status
+as_order bytes = order_or_fault (schedule_read bytes)
+
+-- what a log says of its program, and what an image is
+abbrev pub logged_print : Log → Print
+logged_print log = record { digest = log.digest; words = length log.lasts; threads = length log.threads }
+
+abbrev pub image_print : ImageValue → Print
+image_print image = record { digest = sha256 image.bytes; words = length image.program.words; threads = length image.program.threads }

@@ -9,6 +9,9 @@ use Rattle.assembler.specs.declared.asm_fault.AsmKind.TheVariants as asm_kind
 use Rattle.assembler.specs.Assembled.{number_of_kind as number_of_asm_kind}
 use Rattle.log_file.specs.declared.log_fault.LogKind.TheVariants as log_kind
 use Rattle.log_file.specs.LogFaults.{number_of_kind as number_of_log_kind}
+use Rattle.log_file.specs.declared.sched_fault.SchedKind.TheVariants as sched_kind
+use Rattle.log_file.specs.Schedules.{number_of_kind as number_of_sched_kind}
+use Rattle.schedule_check.specs.Faults.{number_of as number_of_order_kind}
 use Rattle.light_top.specs.declared.status.Status.{Status}
 use Rattle.light_top.specs.declared.status.Status.TheVariants as status
 
@@ -21,8 +24,12 @@ code_of (status.TooLong taken) = 4
 code_of (status.ImageRefused fault) = 5
 code_of (status.AsmRefused fault) = 6
 code_of (status.LogRefused fault) = 7
+code_of (status.WrongProgram logged found) = 8
 code_of status.NoSchedule = 9
 code_of status.Spent = 10
+code_of (status.Differs difference) = 11
+code_of (status.SchedRefused fault) = 12
+code_of (status.Disrespects fault) = 13
 code_of status.SinkFault = 14
 code_of (status.InputRefused fault) = 15
 code_of (status.WrongInputs program inputs) = 16
@@ -45,6 +52,18 @@ input_line kind = codes "light: inputs refused" ++ (codes " kind " ++ decimal ki
 abbrev pub log_line : ℕ → ℕ → List ℕ
 log_line kind at = codes "light: log refused" ++ (codes " kind " ++ decimal kind) ++ (codes " at " ++ decimal at) ++ 10 ∷ []
 
+-- a schedule was refused: kind K at A
+abbrev pub schedule_line : ℕ → ℕ → List ℕ
+schedule_line kind at = codes "light: schedule refused" ++ (codes " kind " ++ decimal kind) ++ (codes " at " ++ decimal at) ++ 10 ∷ []
+
+-- an order was refused: kind K at I J
+abbrev pub order_line : ℕ → ℕ → ℕ → List ℕ
+order_line kind i j = codes "light: order refused" ++ (codes " kind " ++ decimal kind) ++ (codes " at " ++ decimal i) ++ (codes " " ++ decimal j) ++ 10 ∷ []
+
+-- a replay found something else: thread T entry E
+abbrev pub difference_line : ℕ → ℕ → List ℕ
+difference_line thread entry = codes "light: differs" ++ (codes " thread " ++ decimal thread) ++ (codes " entry " ++ decimal entry) ++ 10 ∷ []
+
 -- what is told of a status
 abbrev pub status_line : Status → List ℕ
 status_line status.Ok = []
@@ -54,8 +73,12 @@ status_line (status.TooLong taken) = codes "light: too long" ++ 10 ∷ []
 status_line (status.ImageRefused fault) = refusal_line (number_of_kind fault.kind) fault.thread fault.at
 status_line (status.AsmRefused fault) = text_line fault.line (number_of_asm_kind fault.kind)
 status_line (status.LogRefused fault) = log_line (number_of_log_kind fault.kind) fault.at
+status_line (status.WrongProgram logged found) = codes "light: wrong program" ++ 10 ∷ []
 status_line status.NoSchedule = codes "light: no schedule" ++ 10 ∷ []
 status_line status.Spent = codes "light: budget spent" ++ 10 ∷ []
+status_line (status.Differs difference) = difference_line difference.thread difference.entry
+status_line (status.SchedRefused fault) = schedule_line (number_of_sched_kind fault.kind) fault.at
+status_line (status.Disrespects fault) = order_line (number_of_order_kind fault.kind) fault.i fault.j
 status_line status.SinkFault = codes "light: output fault" ++ 10 ∷ []
 status_line (status.InputRefused fault) = input_line (number_of_input_kind fault.kind)
 status_line (status.WrongInputs program inputs) = codes "light: wrong inputs" ++ 10 ∷ []
@@ -73,12 +96,16 @@ IsRefusal (status.AsmRefused fault) = fault.kind ≢ asm_kind.Memory
 IsRefusal (status.InputRefused fault) = fault.kind ≢ input_kind.Memory
 IsRefusal (status.WrongInputs program inputs) = program ≢ inputs
 IsRefusal (status.LogRefused fault) = fault.kind ≢ log_kind.Memory
+IsRefusal (status.WrongProgram logged found) = logged ≢ found
+IsRefusal (status.SchedRefused fault) = fault.kind ≢ sched_kind.Memory
 IsRefusal s = ⊥
 
 -- the statuses of tasks that cannot be done
 abbrev pub IsFailure : Status → Type 0
 IsFailure status.NoSchedule = Unit {0}
 IsFailure status.Spent = Unit {0}
+IsFailure (status.Differs difference) = difference.logged ≢ difference.found
+IsFailure (status.Disrespects fault) = Unit {0}
 IsFailure s = ⊥
 
 -- the status of a command that was done, or refused

@@ -1,5 +1,5 @@
 -- What each task means: what is printed and saved where it is done.
-use Rattle.std.specs.Prelude.{◌≡◌, List, ℕ, length}
+use Rattle.std.specs.Prelude.{◌≡◌, ℕ, ◌<◌, ◌^◌, List, [], ◌∷◌, ◌++◌, codes, length}
 use Rattle.sha2.specs.Sha256.{sha256}
 use Rattle.machine.specs.Programs.{LimitsValue}
 use Rattle.machine.specs.Inputs.{InputsValue}
@@ -7,6 +7,10 @@ use Rattle.machine.specs.Images.{IsImage}
 use Rattle.machine.specs.Runs.{rounds_of}
 use Rattle.history.specs.Histories.{IsHistory}
 use Rattle.history.specs.HistoryLogs.{log_of_history}
+use Rattle.replay_model.specs.Orders.{Respects}
+use Rattle.constraints.specs.Constraints.{dead}
+use Rattle.arena_samples.specs.Arenas.{arena_of}
+use Rattle.arena_samples.specs.Summaries.{summary_of}
 use Rattle.log_file.specs.Spelling.{spelling}
 use Rattle.log_text.specs.ShowTexts.{show}
 use Rattle.transcript.specs.Transcripts.{transcript_of}
@@ -16,13 +20,18 @@ use Rattle.light_top.specs.Outputs.{Output, printed, printed_and_saved, saved}
 use Rattle.light_top.specs.declared.task.Task.{Task}
 use Rattle.light_top.specs.declared.task.Task.TheVariants as task
 use Rattle.light_top.specs.Statuses.{IsFailure}
+use Rattle.light_top.specs.Logs.{logged_print, image_print}
+use Rattle.light_top.specs.Arenas.{IsArenaHistory, IsArenaEnd, arena_log}
+use Rattle.light_top.specs.Solving.{Unsolved, Unreplayed, IsDisrespectful, IsSolved, IsReplayed}
 use Rattle.light_top.specs.declared.status.Status.{Status}
 use Rattle.light_top.specs.declared.status.Status.TheVariants as status
 
--- the inputs have a list for each thread of the program that they are for
+-- the inputs have a list for each thread of the program that they are for; an order is that of a file; a log is that of the image's program
 abbrev pub IsMatched : Task → Type 0
 IsMatched (task.Play image limits inputs) = length inputs ≡ length image.program.threads
 IsMatched (task.Record image log limits inputs) = length inputs ≡ length image.program.threads
+IsMatched (task.Check log order) = length order < 2 ^ 32
+IsMatched (task.Replay image log schedule budget) = logged_print log ≡ image_print image
 IsMatched _ = Unit {0}
 
 -- the output is the transcript of this history, and its log under this name
@@ -45,9 +54,23 @@ Means (task.List image) output = IsImage image.bytes image.program × (output �
 Means (task.Show log) output = output ≡ printed (show log)
 -- the log as it is written today
 Means (task.Upgrade log name) output = output ≡ saved name (spelling log)
+-- that the order respects the log
+Means (task.Check log order) output = Respects log order × (output ≡ printed (codes "respects" ++ 10 ∷ []))
+-- the text of an order that respects the log, and its length
+Means (task.Solve log schedule budget) output = IsSolved log schedule output
+-- such a text, and the transcript of runs of the program that fit the log
+Means (task.Replay image log schedule budget) output = IsImage image.bytes image.program × IsReplayed image.program log schedule output
+-- the summary of the arena, by the values at the end of one whole history of it
+Means (task.Arena number) output = (values : List ℕ) × IsArenaEnd (arena_of number) values × (output ≡ printed (summary_of number values))
 
 -- how a task that was given cannot be done, and why
 abbrev pub Fails : Task → Status → Type 0
+-- the order does not respect the log, and this is its first fault
+Fails (task.Check log order) s = IsDisrespectful log order s
+Fails (task.Solve log schedule budget) s = Unsolved log budget s
+Fails (task.Replay image log schedule budget) s = Unreplayed image.program log budget s
+-- the log of some whole history of the arena has a dead end
+Fails (task.Arena number) status.Spent = (history : List ℕ) × IsArenaHistory (arena_of number) history × (0 < dead (arena_log (arena_of number) history))
 Fails task s = ⊥
 
 -- memory was refused, or the task cannot be done

@@ -96,6 +96,40 @@ upgrade_of (old ∷ log ∷ []) = do
   Some (command.Upgrade old log)
 upgrade_of _ = None
 
+-- LOG SCHED
+abbrev pub check_of : List (List ℕ) → Option Command
+check_of (log ∷ schedule ∷ []) = do
+  log ← name_of log
+  schedule ← name_of schedule
+  Some (command.Check log schedule)
+check_of _ = None
+
+-- LOG SCHED BUDGET
+abbrev pub solve_of : List (List ℕ) → Option Command
+solve_of (log ∷ schedule ∷ budget ∷ []) = do
+  log ← name_of log
+  schedule ← name_of schedule
+  budget ← number_of 4294967295 budget
+  Some (command.Solve log schedule budget)
+solve_of _ = None
+
+-- IMAGE LOG SCHED BUDGET
+abbrev pub replay_of : List (List ℕ) → Option Command
+replay_of (image ∷ log ∷ schedule ∷ budget ∷ []) = do
+  image ← name_of image
+  log ← name_of log
+  schedule ← name_of schedule
+  budget ← number_of 4294967295 budget
+  Some (command.Replay image log schedule budget)
+replay_of _ = None
+
+-- NUMBER
+abbrev pub arena_of_words : List (List ℕ) → Option Command
+arena_of_words (number ∷ []) = do
+  number ← number_of 4294967295 number
+  Some (command.Arena number)
+arena_of_words _ = None
+
 -- the command is named by the first word, and takes exactly the words shown
 abbrev pub command_of : List (List ℕ) → Option Command
 command_of [] = None
@@ -106,4 +140,8 @@ command_of (verb ∷ rest) =
     else if bytes_eq verb (codes "list") then list_of rest
     else if bytes_eq verb (codes "show") then show_of rest
     else if bytes_eq verb (codes "upgrade") then upgrade_of rest
+    else if bytes_eq verb (codes "check") then check_of rest
+    else if bytes_eq verb (codes "solve") then solve_of rest
+    else if bytes_eq verb (codes "replay") then replay_of rest
+    else if bytes_eq verb (codes "arena") then arena_of_words rest
     else None

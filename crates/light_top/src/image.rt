@@ -5,6 +5,8 @@ ghost use Rattle.light_top.specs.Given.{NotRead};
 
 use crate::Status;
 use crate::bytes::Bytes;
+use crate::print::Print;
+use log_file::digest_of;
 use machine::{ImageFault, ImageKind, Program, read_image};
 use std::alloc::Global;
 use std::marker::Model;
@@ -29,6 +31,7 @@ impl Model for Image {
 
 impl Image {
     ghost use Rattle.machine.specs.Images.{IsImage};
+    ghost use Rattle.light_top.specs.Logs.{image_print};
 
     /// Reads bytes as an image.
     pub fn read(alloc: Global, bytes: Bytes) -> Result<Image, Status>
@@ -59,5 +62,16 @@ impl Image {
         ensures image { IsImage self.now.bytes self.now.program }
     {
         &self.program
+    }
+
+    /// What tells the program from others.
+    pub fn print(&self) -> Print
+        ensures { result ≡ image_print self.now }
+    {
+        Print {
+            digest: digest_of(self.bytes.as_slice()),
+            words: self.program.words().len() as u16,
+            threads: self.program.threads_count() as u8,
+        }
     }
 }

@@ -1,16 +1,21 @@
 //! The commands, over any store and any sink.
 #![tactic(auto)]
 
+mod arenas;
 mod bytes;
 mod delivery;
 mod image;
 mod loading;
+mod order;
 mod output;
+mod print;
+mod solving;
 mod status;
 mod task;
 mod top;
 mod words;
 
+pub use print::Print;
 pub use recorder::{Gate, OpenGate};
 pub use status::{Status, status_text};
 pub use top::light;

@@ -1,20 +1,22 @@
 // What the files of a command are read as, before anything is done.
-ghost use Rattle.std.specs.Prelude.{◌≡◌, ◌≤◌, length, Ok, OnOk, IfOk, IfErr};
+ghost use Rattle.std.specs.Prelude.{◌≡◌, ◌<◌, ◌^◌, ◌≤◌, length, Ok, OnOk, IfOk, IfErr};
 ghost use Rattle.light_top.specs.Statuses.{most_bytes};
 ghost use Rattle.light_top.specs.Images.{as_text, as_inputs};
-ghost use Rattle.light_top.specs.Logs.{as_log, as_old_log};
+ghost use Rattle.light_top.specs.Logs.{as_log, as_old_log, as_order, logged_print, image_print};
 ghost use Rattle.light_top.specs.Tasks.{IsMatched};
-ghost use Rattle.light_top.specs.Given.{file_in, image_in, text_in, numbers_in, inputs_in, matched, log_in, old_log_in, given, Gives, NotRead, NotGiven};
+ghost use Rattle.light_top.specs.Given.{file_in, image_in, text_in, numbers_in, inputs_in, matched, log_in, old_log_in, order_in, of_program, given, Gives, NotRead, NotGiven};
 
 use crate::Status;
 use crate::bytes::Bytes;
 use crate::image::Image;
+use crate::order::Order;
+use crate::print::logged_print;
 use crate::task::Task;
 use crate::words::{Command, Name};
 use assembler::{AsmFault, AsmKind, assemble};
 use dep_log::RunLog;
 use light_base::{Memory, Store, StoreFault};
-use log_file::{LogFault, LogKind, read_log, read_old};
+use log_file::{LogFault, LogKind, SchedFault, SchedKind, read_log, read_old, read_schedule};
 use machine::{InputFault, InputKind, Inputs, Program, read_inputs};
 use std::alloc::Global;
 
@@ -221,6 +223,54 @@ fn load_old<S: Store>(alloc: Global, store: &mut S, name: &Name<'_>) -> Result<R
     read_of_old(alloc, bytes.as_slice())
 }
 
+// The order whose text the bytes are.
+fn read_order(alloc: Global, bytes: &[u8]) -> Result<Order, Status>
+    requires { length bytes.now ≤ most_bytes }
+    ensures ok { IfOk result (λ order. as_order bytes.now ≡ Ok order) }
+    ensures few { IfOk result (λ order. length order < 2 ^ 32) }
+    ensures err { IfErr result (NotRead (as_order bytes.now)) }
+{
+    match read_schedule(alloc, bytes) {
+        Ok(events) => Ok(Order::of(events)),
+        Err(
+            SchedFault {
+                kind: SchedKind::Memory,
+                ..
+            },
+        ) => Err(Status::Memory),
+        Err(fault) => Err(Status::SchedRefused(fault)),
+    }
+}
+
+// The order in a file.
+fn load_order<S: Store>(alloc: Global, store: &mut S, name: &Name<'_>) -> Result<Order, Status>
+    ensures ok { IfOk result (Gives (S.files store.old) (λ files. order_in files name.now)) }
+    ensures few { IfOk result (λ order. length order < 2 ^ 32) }
+    ensures err { IfErr result (NotGiven (S.files store.old) (S.sound store.old) (S.faults store.old) (S.faults store.new) (λ files. order_in files name.now)) }
+
+    ensures files { S.files store.new ≡ S.files store.old }
+    ensures sound { S.sound store.new ≡ S.sound store.old }
+    ensures quiet { OnOk result (S.faults store.new ≡ S.faults store.old) }
+{
+    let bytes = load(alloc, store, name)?;
+    read_order(alloc, bytes.as_slice())
+}
+
+// A log that is of the image's program.
+fn of_program(image: &Image, log: RunLog) -> Result<RunLog, Status>
+    ensures ok { IfOk result (λ own. of_program image.now log ≡ Ok own) }
+    ensures same { IfOk result (λ own. logged_print own ≡ image_print image.now) }
+    ensures err { IfErr result (NotRead (of_program image.now log)) }
+{
+    let logged = logged_print(&log);
+    let found = image.print();
+    if logged.is(&found) {
+        Ok(log)
+    } else {
+        Err(Status::WrongProgram { logged, found })
+    }
+}
+
 /// Loads what a command names, and reads it: the task that is to be done. The files stay as they are.
 pub fn take_up<'a, S: Store>(
     alloc: Global,
@@ -285,5 +335,39 @@ pub fn take_up<'a, S: Store>(
                 name: log,
             })
         }
+        Command::Check { log, schedule } => {
+            let log = load_log(alloc, store, &log)?;
+            let order = load_order(alloc, store, &schedule)?;
+            Ok(Task::Check { log, order })
+        }
+        Command::Solve {
+            log,
+            schedule,
+            budget,
+        } => {
+            let log = load_log(alloc, store, &log)?;
+            Ok(Task::Solve {
+                log,
+                schedule,
+                budget,
+            })
+        }
+        Command::Replay {
+            image,
+            log,
+            schedule,
+            budget,
+        } => {
+            let image = load_image(alloc, store, &image)?;
+            let log = load_log(alloc, store, &log)?;
+            let log = of_program(&image, log)?;
+            Ok(Task::Replay {
+                image,
+                log,
+                schedule,
+                budget,
+            })
+        }
+        Command::Arena { number } => Ok(Task::Arena { number }),
     }
 }

@@ -1,11 +1,14 @@
 // How a command ends, as a number and as a line of text.
-ghost use Rattle.std.specs.Prelude.{◌≡◌, IfOk, OnOk, ◌++◌, decimal};
-ghost use Rattle.light_top.specs.Statuses.{code_of, status_line, refusal_line, text_line, input_line, log_line};
+ghost use Rattle.std.specs.Prelude.{◌≡◌, IfOk, OnOk, ◌∷◌, [], ◌++◌, decimal, codes};
+ghost use Rattle.light_top.specs.Statuses.{code_of, status_line, refusal_line, text_line, input_line, log_line, schedule_line, order_line, difference_line};
 
+use crate::print::Print;
 use assembler::AsmFault;
 use light_base::{Memory, put_decimal};
-use log_file::LogFault;
+use log_file::{LogFault, SchedFault};
 use machine::{ImageFault, InputFault};
+use replayer::Difference;
+use schedule_check::OrderFault;
 use std::alloc::Global;
 
 #[derive(Clone, Copy, Debug, PartialEq, Eq)]
@@ -24,10 +27,19 @@ pub enum Status {
     AsmRefused(AsmFault),
     /// The bytes are no log, and this is the first fault.
     LogRefused(LogFault),
+    /// The log is that of another program: these are the prints of its own and of the image's.
+    WrongProgram { logged: Print, found: Print },
     /// No order respects the log.
     NoSchedule,
     /// The search for an order has met more dead ends than the budget.
     Spent,
+    /// No runs of the program have the log, and this is the first difference that a replay by an order that respects the log
+    /// found.
+    Differs(Difference),
+    /// The bytes are no schedule, and this is the first fault.
+    SchedRefused(SchedFault),
+    /// The order does not respect the log, and this is its first fault.
+    Disrespects(OrderFault),
     /// The sink counted a fault.
     SinkFault,
     /// The bytes are no inputs, and this is the first fault.
@@ -51,8 +63,12 @@ impl Status {
             Status::ImageRefused(_) => 5,
             Status::AsmRefused(_) => 6,
             Status::LogRefused(_) => 7,
+            Status::WrongProgram { .. } => 8,
             Status::NoSchedule => 9,
             Status::Spent => 10,
+            Status::Differs(_) => 11,
+            Status::SchedRefused(_) => 12,
+            Status::Disrespects(_) => 13,
             Status::SinkFault => 14,
             Status::InputRefused(_) => 15,
             Status::WrongInputs { .. } => 16,
@@ -119,6 +135,44 @@ fn put_log_refusal(text: &mut Vec<u8>, kind: u64, at: u64) -> Result<(), Memory>
     Ok(())
 }
 
+fn put_schedule_refusal(text: &mut Vec<u8>, kind: u64, at: u64) -> Result<(), Memory>
+    ensures { OnOk result (text.new.items ≡ text.old.items ++ schedule_line kind at) }
+{
+    text.extend_from_slice(b"light: schedule refused")?;
+    put_field(text, b" kind ", kind)?;
+    put_field(text, b" at ", at)?;
+    text.push(b'\n')?;
+    Ok(())
+}
+
+// Appends two numbers, and ends the line.
+fn put_places(text: &mut Vec<u8>, i: u64, j: u64) -> Result<(), Memory>
+    ensures { OnOk result (text.new.items ≡ text.old.items ++ ((codes " at " ++ decimal i) ++ (codes " " ++ decimal j) ++ 10 ∷ [])) }
+{
+    put_field(text, b" at ", i)?;
+    put_field(text, b" ", j)?;
+    text.push(b'\n')?;
+    Ok(())
+}
+
+fn put_order_refusal(text: &mut Vec<u8>, kind: u64, i: u64, j: u64) -> Result<(), Memory>
+    ensures { OnOk result (text.new.items ≡ text.old.items ++ order_line kind i j) }
+{
+    text.extend_from_slice(b"light: order refused")?;
+    put_field(text, b" kind ", kind)?;
+    put_places(text, i, j)
+}
+
+fn put_difference(text: &mut Vec<u8>, thread: u64, entry: u64) -> Result<(), Memory>
+    ensures { OnOk result (text.new.items ≡ text.old.items ++ difference_line thread entry) }
+{
+    text.extend_from_slice(b"light: differs")?;
+    put_field(text, b" thread ", thread)?;
+    put_field(text, b" entry ", entry)?;
+    text.push(b'\n')?;
+    Ok(())
+}
+
 /// The line that tells of a status, with its line feed. Of `Ok` nothing is told.
 pub fn status_text(alloc: Global, status: &Status) -> Result<Vec<u8>, Memory>
     ensures { IfOk result (λ text. text.items ≡ status_line status.now) }
@@ -146,8 +200,21 @@ pub fn status_text(alloc: Global, status: &Status) -> Result<Vec<u8>, Memory>
             let kind = u64::from(fault.kind.code());
             put_log_refusal(&mut text, kind, u64::from(fault.at))?
         }
+        Status::WrongProgram { .. } => text.extend_from_slice(b"light: wrong program\n")?,
         Status::NoSchedule => text.extend_from_slice(b"light: no schedule\n")?,
         Status::Spent => text.extend_from_slice(b"light: budget spent\n")?,
+        Status::Differs(difference) => {
+            let thread = u64::from(difference.thread);
+            put_difference(&mut text, thread, u64::from(difference.entry))?
+        }
+        Status::SchedRefused(fault) => {
+            let kind = u64::from(fault.kind.code());
+            put_schedule_refusal(&mut text, kind, u64::from(fault.at))?
+        }
+        Status::Disrespects(fault) => {
+            let kind = u64::from(fault.kind.number());
+            put_order_refusal(&mut text, kind, u64::from(fault.i), u64::from(fault.j))?
+        }
         Status::SinkFault => text.extend_from_slice(b"light: output fault\n")?,
         Status::InputRefused(fault) => {
             put_input_refusal(&mut text, u64::from(fault.kind.code()))?

@@ -1,17 +1,23 @@
 // Tasks: what is done of values alone, once all that a command names was loaded and read.
-ghost use Rattle.std.specs.Prelude.{◌≡◌, ℕ, List, length, IfOk, IfErr};
+ghost use Rattle.std.specs.Prelude.{◌≡◌, ℕ, List, [], ◌∷◌, ◌++◌, codes, length, IfOk, IfErr, ◌<◌, ◌^◌};
 ghost use Rattle.sha2.specs.Sha256.{sha256};
 ghost use Rattle.machine.specs.Runs.{rounds_of};
 ghost use Rattle.history.specs.Histories.{IsHistory};
 ghost use Rattle.log_file.specs.Spelling.{spelling};
 ghost use Rattle.transcript.specs.Transcripts.{transcript, transcript_of};
 ghost use Rattle.light_top.specs.Outputs.{printed_and_saved};
+ghost use Rattle.replay_model.specs.Orders.{Respects};
+ghost use Rattle.light_top.specs.Logs.{logged_print, image_print};
+ghost use Rattle.light_top.specs.Solving.{IsSolved, IsReplayed, NotSolved, NotJudged, NotReplayedWithin};
 ghost use Rattle.light_top.specs.Tasks.{IsMatched, IsRecorded, Means, NotDone};
 
 use crate::Status;
+use crate::arenas::play_arena;
 use crate::bytes::Bytes;
 use crate::image::Image;
+use crate::order::Order;
 use crate::output::{Output, Saved};
+use crate::solving::{count_text, find_order, replay_text, with_order};
 use crate::words::Name;
 use dep_log::RunLog;
 use history::Plain;
@@ -20,6 +26,7 @@ use log_file::{digest_of, write_log};
 use log_text::show_text;
 use machine::{Inputs, Limits, Program, write_image};
 use recorder::{Gate, Recorded, record};
+use schedule_check::{Verdict, check};
 use std::alloc::Global;
 use std::thread::Threads;
 use transcript::text_of;
@@ -57,6 +64,28 @@ pub enum Task<'a> {
     Upgrade {
         log: RunLog,
         name: Name<'a>,
+    },
+    /// To check an order.
+    Check {
+        log: RunLog,
+        order: Order,
+    },
+    /// To find an order, and to save it.
+    Solve {
+        log: RunLog,
+        schedule: Name<'a>,
+        budget: u32,
+    },
+    /// To find an order, to play a program by it, and to save it.
+    Replay {
+        image: Image,
+        log: RunLog,
+        schedule: Name<'a>,
+        budget: u32,
+    },
+    /// To record an arena and to replay it.
+    Arena {
+        number: u32,
     },
 }
 
@@ -110,6 +139,59 @@ fn record_image<'a, R: Threads + Sync, G: Gate>(
     recording(alloc, recorded, image.bytes(), log)
 }
 
+// The line that tells that an order respects a log.
+fn respects_line(alloc: Global) -> Result<Bytes, Memory>
+    ensures { IfOk result (λ text. text ≡ codes "respects" ++ 10 ∷ []) }
+{
+    let mut text = Vec::new(alloc);
+    text.extend_from_slice(b"respects\n")?;
+    Ok(Bytes::of(text))
+}
+
+// That an order respects a log.
+fn judge(alloc: Global, log: &RunLog, order: &Order) -> Result<Bytes, Status>
+    requires { length order.now < 2 ^ 32 }
+    ensures ok { IfOk result (λ text. Respects log.now order.now × (text ≡ codes "respects" ++ 10 ∷ [])) }
+    ensures err { IfErr result (NotJudged log.now order.now) }
+{
+    match check(alloc, log, order.as_slice())? {
+        Verdict::Respects => Ok(respects_line(alloc)?),
+        Verdict::Fault(fault) => Err(Status::Disrespects(fault)),
+    }
+}
+
+// An order that respects a log, and how many events it has.
+fn solve_log<'a>(
+    alloc: Global,
+    log: &RunLog,
+    schedule: Name<'a>,
+    budget: u32,
+) -> Result<Output<'a>, Status>
+    ensures ok { IfOk result (IsSolved log.now schedule.entry) }
+    ensures err { IfErr result (NotSolved log.now budget) }
+{
+    let order = find_order(alloc, log, budget)?;
+    let text = count_text(alloc, &order)?;
+    Ok(with_order(alloc, log, &order, schedule, text)?)
+}
+
+// An order that respects a log, and the transcript of the runs that have the log.
+fn replay_log<'a>(
+    alloc: Global,
+    image: &Image,
+    log: &RunLog,
+    schedule: Name<'a>,
+    budget: u32,
+) -> Result<Output<'a>, Status>
+    requires { logged_print log.now ≡ image_print image.now }
+    ensures ok { IfOk result (IsReplayed image.now.program log.now schedule.entry) }
+    ensures err { IfErr result (NotReplayedWithin image.now.program log.now budget) }
+{
+    let order = find_order(alloc, log, budget)?;
+    let text = replay_text(alloc, image, log, &order)?;
+    Ok(with_order(alloc, log, &order, schedule, text)?)
+}
+
 /// Does a task.
 pub fn perform<'a, R: Threads + Sync, G: Gate>(
     rt: &R,
@@ -160,6 +242,25 @@ pub fn perform<'a, R: Threads + Sync, G: Gate>(
                 text: Bytes::of(Vec::new(alloc)),
                 saved: Some(Saved { name, bytes }),
             })
+        }
+        Task::Check { log, order } => {
+            let text = judge(alloc, &log, &order)?;
+            Ok(Output { text, saved: None })
+        }
+        Task::Solve {
+            log,
+            schedule,
+            budget,
+        } => solve_log(alloc, &log, schedule, budget),
+        Task::Replay {
+            image,
+            log,
+            schedule,
+            budget,
+        } => replay_log(alloc, &image, &log, schedule, budget),
+        Task::Arena { number } => {
+            let text = play_arena(rt, alloc, gate, number)?;
+            Ok(Output { text, saved: None })
         }
     }
 }

@@ -1,6 +1,6 @@
 // The words of the command line.
 ghost use Rattle.std.specs.Prelude.{◌≡◌, ◌<◌, ◌^◌};
-ghost use Rattle.light_top.specs.Words.{is_plain, number_of, name_of, limits_of, inputs_of, texts, run_of, record_of, asm_of, list_of, show_of, upgrade_of, command_of};
+ghost use Rattle.light_top.specs.Words.{is_plain, number_of, name_of, limits_of, inputs_of, texts, run_of, record_of, asm_of, list_of, show_of, upgrade_of, check_of, solve_of, replay_of, arena_of_words, command_of};
 
 use machine::Limits;
 use std::marker::Model;
@@ -71,6 +71,28 @@ pub enum Command<'a> {
         old: Name<'a>,
         log: Name<'a>,
     },
+    /// Checks that the order in a schedule respects a log.
+    Check {
+        log: Name<'a>,
+        schedule: Name<'a>,
+    },
+    /// Finds an order that respects a log, and saves it.
+    Solve {
+        log: Name<'a>,
+        schedule: Name<'a>,
+        budget: u32,
+    },
+    /// Finds such an order, plays the program of an image by it, and saves it.
+    Replay {
+        image: Name<'a>,
+        log: Name<'a>,
+        schedule: Name<'a>,
+        budget: u32,
+    },
+    /// Records an arena program, and replays it.
+    Arena {
+        number: u32,
+    },
 }
 
 // Whether a text may be that of a number: it has no sign, and a zero in front stands alone.
@@ -104,6 +126,13 @@ fn limits(steps: &str, instr: &str, entries: &str) -> Option<Limits>
     let instr = number(instr, 1_073_741_824)?;
     let entries = number(entries, 16_384)?;
     Limits::new(steps, instr, entries)
+}
+
+// Any number of 32 bits.
+fn any_number(word: &str) -> Option<u32>
+    ensures { result ≡ number_of 4294967295 word.now }
+{
+    number(word, u32::MAX)
 }
 
 // The names of inputs that these words are: none, or one.
@@ -190,6 +219,56 @@ fn upgrade<'a>(words: &'a [String]) -> Option<Command<'a>>
     }
 }
 
+fn check<'a>(words: &'a [String]) -> Option<Command<'a>>
+    ensures { result ≡ check_of (texts words.now) }
+{
+    match words {
+        [log, schedule] => Some(Command::Check {
+            log: Name::of(log.as_str())?,
+            schedule: Name::of(schedule.as_str())?,
+        }),
+        _ => None,
+    }
+}
+
+fn solve<'a>(words: &'a [String]) -> Option<Command<'a>>
+    ensures { result ≡ solve_of (texts words.now) }
+{
+    match words {
+        [log, schedule, budget] => Some(Command::Solve {
+            log: Name::of(log.as_str())?,
+            schedule: Name::of(schedule.as_str())?,
+            budget: any_number(budget.as_str())?,
+        }),
+        _ => None,
+    }
+}
+
+fn replay<'a>(words: &'a [String]) -> Option<Command<'a>>
+    ensures { result ≡ replay_of (texts words.now) }
+{
+    match words {
+        [image, log, schedule, budget] => Some(Command::Replay {
+            image: Name::of(image.as_str())?,
+            log: Name::of(log.as_str())?,
+            schedule: Name::of(schedule.as_str())?,
+            budget: any_number(budget.as_str())?,
+        }),
+        _ => None,
+    }
+}
+
+fn arena<'a>(words: &'a [String]) -> Option<Command<'a>>
+    ensures { result ≡ arena_of_words (texts words.now) }
+{
+    match words {
+        [number] => Some(Command::Arena {
+            number: any_number(number.as_str())?,
+        }),
+        _ => None,
+    }
+}
+
 /// The command that the words are, if they are one.
 pub fn read_command<'a>(words: &'a [String]) -> Option<Command<'a>>
     ensures { result ≡ command_of (texts words.now) }
@@ -202,6 +281,10 @@ pub fn read_command<'a>(words: &'a [String]) -> Option<Command<'a>>
             "list" => list(rest),
             "show" => show(rest),
             "upgrade" => upgrade(rest),
+            "check" => check(rest),
+            "solve" => solve(rest),
+            "replay" => replay(rest),
+            "arena" => arena(rest),
             _ => None,
         },
         [] => None,

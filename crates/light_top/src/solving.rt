@@ -1,0 +1,77 @@
+// Orders of a log's events: found, checked, written down, and played by.
+ghost use Rattle.std.specs.Prelude.{◌≡◌, ◌<◌, ◌^◌, ◌++◌, length, IfOk, IfErr, OnOk};
+ghost use Rattle.replay_model.specs.Orders.{Respects};
+ghost use Rattle.log_file.specs.Schedules.{schedule_text};
+ghost use Rattle.light_top.specs.Logs.{logged_print, image_print};
+ghost use Rattle.light_top.specs.Solving.{IsOrderOf, NotSolved, events_line, order_file, IsTranscript, NotReplayed};
+
+use crate::Status;
+use crate::bytes::Bytes;
+use crate::image::Image;
+use crate::order::Order;
+use crate::output::{Output, Saved};
+use crate::words::Name;
+use constraints::Problem;
+use dep_log::RunLog;
+use light_base::{Memory, put_decimal};
+use log_file::write_schedule;
+use replayer::{Replayed, replay_order};
+use std::alloc::Global;
+use transcript::text_of;
+
+/// An order that respects the log.
+pub fn find_order(alloc: Global, log: &RunLog, budget: u32) -> Result<Order, Status>
+    ensures ok { IfOk result (IsOrderOf log.now) }
+    ensures err { IfErr result (NotSolved log.now budget) }
+{
+    Err(Status::Memory)
+}
+
+/// How many events an order has, as a line.
+pub fn count_text(alloc: Global, order: &Order) -> Result<Bytes, Memory>
+    requires { length order.now < 2 ^ 28 }
+    ensures { IfOk result (λ text. text ≡ events_line (length order.now)) }
+{
+    let mut text = Vec::new(alloc);
+    text.extend_from_slice(b"events ")?;
+    put_decimal(&mut text, order.as_slice().len() as u64)?;
+    text.push(b'\n')?;
+    Ok(Bytes::of(text))
+}
+
+/// A text, and the file of an order.
+pub fn with_order<'a>(
+    alloc: Global,
+    log: &RunLog,
+    order: &Order,
+    name: Name<'a>,
+    text: Bytes,
+) -> Result<Output<'a>, Memory>
+    requires { IsOrderOf log.now order.now }
+    ensures text { IfOk result (λ output. output.text ≡ text) }
+    ensures file { IfOk result (λ output. output.saved ≡ Some (order_file name.entry order.now)) }
+{
+    let bytes = Bytes::of(write_schedule(alloc, order.as_slice())?);
+    Ok(Output {
+        text,
+        saved: Some(Saved { name, bytes }),
+    })
+}
+
+/// The transcript of the program's runs that have the log, as a replay by the order finds them.
+pub fn replay_text(
+    alloc: Global,
+    image: &Image,
+    log: &RunLog,
+    order: &Order,
+) -> Result<Bytes, Status>
+    requires same { logged_print log.now ≡ image_print image.now }
+    requires order { Respects log.now order.now }
+    ensures ok { IfOk result (IsTranscript image.now.program log.now) }
+    ensures err { IfErr result (NotReplayed image.now.program log.now) }
+{
+    match replay_order(alloc, image.program(), log, order.as_slice())? {
+        Replayed::Same(reports, values) => Ok(Bytes::of(text_of(alloc, &reports, &values)?)),
+        Replayed::Differs(difference) => Err(Status::Differs(difference)),
+    }
+}
