@@ -15,7 +15,7 @@ pub const NO_COMMAND: Row = Row {
 };
 
 // With one space between two words.
-pub static USAGES: [&str; 41] = [
+pub static USAGES: [&str; 58] = [
     "",
     "run",
     "run i 07 1 1",
@@ -54,7 +54,24 @@ pub static USAGES: [&str; 41] = [
     "show l l",
     "upgrade o",
     "upgrade  l",
-    "solve l s 1",
-    "check l s",
-    "replay i l s 1",
+    "check l",
+    "check l s 0",
+    "check  s",
+    "check l ",
+    "solve l s",
+    "solve l s 1 1",
+    "solve l  1",
+    "solve l s 4294967296",
+    "solve l s 00",
+    "solve l s -1",
+    "replay i l s",
+    "replay i l 0",
+    "replay i l s 0 0",
+    "replay i  s 0",
+    "replay i l s 01",
+    "arena",
+    "arena ",
+    "arena 4294967296",
+    "arena +7",
+    "arena 7 7",
 ];
