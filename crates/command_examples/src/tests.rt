@@ -3,6 +3,7 @@ use light_base::{MemSink, MemStore};
 use light_top::{OpenGate, Status, light, status_text};
 use std::test::Fail;
 
+mod arenas;
 mod contents;
 mod inputs;
 mod logs;
@@ -37,8 +38,21 @@ fn commands_end_as_told(rt: HostRuntime) -> Result<(), Fail> {
         logs::SHOWN.as_slice(),
         logs::REFUSED.as_slice(),
         logs::CUT.as_slice(),
+        arenas::FAULTS.as_slice(),
     ] {
         for row in table {
+            check(&rt, alloc, row)?;
+        }
+    }
+    Ok(())
+}
+
+// Each time threads run, and what they do differs; the summary does not.
+#[test]
+fn arenas_end_with_all_their_points(rt: HostRuntime) -> Result<(), Fail> {
+    let alloc = rt.alloc();
+    for _ in 0..3 {
+        for row in &arenas::ARENAS {
             check(&rt, alloc, row)?;
         }
     }

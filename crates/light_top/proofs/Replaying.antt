@@ -26,6 +26,7 @@ use Rattle.light_top.specs.declared.task.Task.TheVariants as task
 use Rattle.light_top.specs.declared.status.Status.{Status}
 use Rattle.light_top.specs.declared.status.Status.TheVariants as status
 use Rattle.light_top.proofs.Sizes.{log_threads, log_words}
+use Rattle.light_top.proofs.Ending.{not_refused, of_task, each_file}
 use Rattle.light_top.proofs.Prints.{is-same}
 
 module _ (fit : HistoryRunsFit) (respect : HistoryEventsRespect) (files : Files) (image name schedule : List ℕ) (budget : ℕ) (had : HasHistory files image name) where
@@ -52,19 +53,10 @@ module _ (fit : HistoryRunsFit) (respect : HistoryEventsRespect) (files : Files)
   Ending old new s = EndsAgain had.loaded.program had.limits had.inputs had.history log schedule budget old new s
 
   module _ (old new : Outside) (told : old.files ≡ Some files) where
-    of_files : (P : Files → Type 0) → IfSome old.files P → P files
-    of_files P h = subst (λ (all : Option Files). IfSome all P) told h
-
-    not_refused : (s : Status) → IfSome old.files (λ fs. given (command.Replay image name schedule budget) fs ≡ Err s) → ⊥
-    not_refused s h = let err = subst (λ (r : Result Task Status). r ≡ Err s) is_given (of_files (λ fs. given (command.Replay image name schedule budget) fs ≡ Err s) h) in absurd err
-
-    of_wanted : (P : Task → Type 0) → IfSome old.files (λ fs. IsOkAnd (given (command.Replay image name schedule budget) fs) P) → P wanted
-    of_wanted P h = subst (λ (r : Result Task Status). IsOkAnd r P) is_given (of_files (λ fs. IsOkAnd (given (command.Replay image name schedule budget) fs) P) h)
-
     early : (s : Status) → EndsEarly (command.Replay image name schedule budget) old new s → Ending old new s
     early status.StoreFault h = h.0
     early status.Memory h = tt
-    early s h = absurd (not_refused s h.1.0)
+    early s h = absurd (not_refused (command.Replay image name schedule budget) files wanted is_given old.files told s h.1.0)
 
     delivered : (s : Status) (output : Output) → IsReplayed had.loaded.program log schedule output → Delivered output old new s → Ending old new s
     delivered status.Ok output is done =
@@ -88,12 +80,8 @@ module _ (fit : HistoryRunsFit) (respect : HistoryEventsRespect) (files : Files)
 
     ended : (s : Status) → Ends (command.Replay image name schedule budget) old new s → Ending old new s
     ended s (inl h) = early s h
-    ended s (inr (inl late)) = delivered s late.output (of_wanted (λ (t : Task). Means t late.output) late.meant).1 late.delivered
-    ended s (inr (inr h)) = undone s h.0 (of_wanted (λ (t : Task). Fails t s) h.1.0) h.1.1
-
-each_file : (all : Option Files) (P : Files → Type 0) → ((fs : Files) → all ≡ Some fs → P fs) → IfSome all P
-each_file None P f = tt
-each_file (Some fs) P f = f fs refl
+    ended s (inr (inl late)) = delivered s late.output (of_task (command.Replay image name schedule budget) files wanted is_given old.files told (λ (t : Task). Means t late.output) late.meant).1 late.delivered
+    ended s (inr (inr h)) = undone s h.0 (of_task (command.Replay image name schedule budget) files wanted is_given old.files told (λ (t : Task). Fails t s) h.1.0) h.1.1
 
 pub replayed : HistoryRunsFit → HistoryEventsRespect → (command : Command) (old new : Outside) (s : Status) → Ends command old new s → Replays command old new s
 replayed fit respect (command.Replay image name schedule budget) old new s ends =

@@ -4,7 +4,7 @@ ghost use Rattle.light_base.specs.Causes.{Rose};
 ghost use Rattle.light_top.specs.Words.{texts, command_of};
 ghost use Rattle.light_top.specs.Statuses.{status_of};
 ghost use Rattle.light_top.specs.Outside.{outside};
-ghost use Rattle.light_top.specs.Ends.{Ends, Answers, CanBeDone, Continues};
+ghost use Rattle.light_top.specs.Ends.{Ends, Answers, Declines, CanBeDone, Continues};
 ghost use Rattle.light_top.specs.Headline.{Records, Replays};
 
 use crate::Status;
@@ -36,7 +36,7 @@ fn carry_out<R: Threads + Sync, S: Store, K: Sink, G: Gate>(
 }
 
 /// Does what the words say. Where it runs threads, each of them passes the gate before each of its memory steps.
-#[tactic(auto, using(crate::proofs::Ending::not_undone, crate::proofs::Headline::recorded, crate::proofs::Replaying::replayed))]
+#[tactic(auto, using(crate::proofs::Ending::not_undone, crate::proofs::Ending::declined, crate::proofs::Headline::recorded, crate::proofs::Replaying::replayed))]
 pub fn light<R: Threads + Sync, S: Store, K: Sink, G: Gate>(
     rt: &R,
     alloc: Global,
@@ -65,6 +65,7 @@ pub fn light<R: Threads + Sync, S: Store, K: Sink, G: Gate>(
 
     // What stands in the way is answered, and where nothing does, it is done.
     ensures answers { IfSome (command_of (texts words.now)) (λ command. IfSome (S.files store.old) (λ files. Answers command files (S.sound store.old) result)) }
+    ensures declines { IfSome (command_of (texts words.now)) (λ command. IfSome (S.files store.old) (λ files. Declines command files (S.sound store.old) result)) }
     ensures complete { IfSome (command_of (texts words.now)) (λ command. CanBeDone command (outside S.files S.sound S.faults K.taken K.faults store.old out.old)
         (outside S.files S.sound S.faults K.taken K.faults store.new out.new) → (result ≡ Status.Ok) ⊎ (result ≡ Status.Memory)) }
 
