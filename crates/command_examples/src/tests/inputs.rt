@@ -5,13 +5,13 @@ use light_top::Status;
 use machine::{ImageFault, ImageKind, InputFault, InputKind};
 
 // A thread that takes two input numbers and puts out each.
-const TAKER: Content = Content::Hex(
+pub const TAKER: Content = Content::Hex(
     "4c494d31 01 0001 0004 00000000 1501000000000000 1001000000000000 1501000000000000 1001000000000000",
 );
 
 const SEVEN_BYTES: &str = "4c494e31 01 00000001 00000007";
 
-const SEVEN: Content = Content::Hex(SEVEN_BYTES);
+pub const SEVEN: Content = Content::Hex(SEVEN_BYTES);
 
 const SEVEN_TO_NINE: Content = Content::Hex("4c494e31 01 00000003 00000007 00000008 00000009");
 
@@ -19,7 +19,7 @@ const TWO_LISTS: Content = Content::Hex("4c494e31 02 00000000 00000001 00000007"
 
 const EMPTY_TEXT: Content = Content::Text("thread 0 input-empty steps 0 instr 0/");
 
-const SEVEN_TEXT: Content = Content::Text("thread 0 input-empty steps 0 instr 2/out 7/");
+pub const SEVEN_TEXT: Content = Content::Text("thread 0 input-empty steps 0 instr 2/out 7/");
 
 const SEVEN_TO_NINE_TEXT: Content = Content::Text("thread 0 halted steps 0 instr 4/out 7/out 8/");
 
@@ -28,7 +28,7 @@ const EMPTY_LOG: Content = Content::Hex(
     "4c4c4732 01 0001 f2090ae0ae55df66c999a269b0ade029a08f2f64f23585ce0103be5814a4e7ae 00000064 00000064 00000064 06 00000000 00000000 00000000 00000000 00000000 00000000",
 );
 
-const SEVEN_LOG: Content = Content::Hex(
+pub const SEVEN_LOG: Content = Content::Hex(
     "4c4c4732 01 0001 f2090ae0ae55df66c999a269b0ade029a08f2f64f23585ce0103be5814a4e7ae 00000064 00000064 00000064 06 00000000 00000000 00000002 00000000 00000001 00000000 00000007",
 );
 

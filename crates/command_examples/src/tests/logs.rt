@@ -6,7 +6,7 @@ use light_top::Status;
 use log_file::{LogFault, LogKind};
 
 // The log of a thread that reads what it wrote, in version 1 of the format.
-const OLD_LOG: Content = Content::Hex(
+pub const OLD_LOG: Content = Content::Hex(
     "4c4c4731010001b4ccf6448bc45676a64744e28389f90c21d30e4190e9c413417dc0164e6fc1e50000006400000064000000640000000000000000020000000400000001100000010000100000010000000200000002",
 );
 

@@ -40,7 +40,8 @@ pub fn words_of(alloc: Global, line: &str) -> Result<Vec<String>, AllocError> {
     Ok(all)
 }
 
-fn holds(
+// Whether the file has this content.
+pub fn holds(
     alloc: Global,
     store: &MemStore,
     name: &str,
