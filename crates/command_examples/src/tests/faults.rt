@@ -12,11 +12,7 @@ use std::test::Fail;
 use std::thread::Threads;
 
 const SOURCE: Content = Content::Text(
-    ".words 1/.thread/set r1 7/store r1 r0 0/load r1 r0 0/out r1/",
-);
-
-const LISTED: Content = Content::Text(
-    ".words 1/.thread/    set r1 7/    store r1 r0 0/    load r1 r0 0/    out r1/",
+    ".words 1/.thread/set r1 7/store r1 r0 0/load r2 r0 0/out r2/",
 );
 
 const TRANSCRIPT: Content = Content::Text("thread 0 halted steps 2 instr 4/out 7/word 0 7/");
@@ -81,7 +77,7 @@ pub static COMMANDS: [(Row, u64); 11] = [
         Row {
             words: "list i",
             files: &[("i", OWN_WRITE_READ)],
-            text: LISTED,
+            text: SOURCE,
             ..DONE
         },
         1,
