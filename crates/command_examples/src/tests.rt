@@ -6,14 +6,19 @@ use std::test::Fail;
 mod arenas;
 mod contents;
 mod faults;
+mod histories;
 mod inputs;
 mod logs;
+mod orders;
 mod outputs;
 mod recordings;
+mod replays;
 mod rows;
 mod runs;
+mod solves;
 mod statuses;
 mod texts;
+mod told;
 mod usages;
 
 use contents::Content;
@@ -40,6 +45,13 @@ fn commands_end_as_told(rt: HostRuntime) -> Result<(), Fail> {
         logs::REFUSED.as_slice(),
         logs::CUT.as_slice(),
         arenas::FAULTS.as_slice(),
+        orders::REFUSED.as_slice(),
+        orders::STOPPED.as_slice(),
+        solves::ONLY.as_slice(),
+        solves::STOPPED.as_slice(),
+        replays::DIFFERENT.as_slice(),
+        replays::OTHER_PROGRAM.as_slice(),
+        replays::STOPPED.as_slice(),
     ] {
         for row in table {
             check(&rt, alloc, row)?;
@@ -56,6 +68,37 @@ fn arenas_end_with_all_their_points(rt: HostRuntime) -> Result<(), Fail> {
         for row in &arenas::ARENAS {
             check(&rt, alloc, row)?;
         }
+    }
+    Ok(())
+}
+
+#[test]
+fn orders_are_checked(rt: HostRuntime) -> Result<(), Fail> {
+    let alloc = rt.alloc();
+    for (log, order) in &orders::RESPECTED {
+        orders::judge(&rt, alloc, *log, order, "")?;
+    }
+    for (log, order, kind, i, j) in &orders::FAULTS {
+        let status = format!(in alloc; "order refused kind {kind} at {i} {j}")?;
+        orders::judge(&rt, alloc, *log, order, status.as_str())?;
+    }
+    Ok(())
+}
+
+#[test]
+fn logs_are_solved(rt: HostRuntime) -> Result<(), Fail> {
+    let alloc = rt.alloc();
+    for (log, events, budget, answers) in &solves::SOLVED {
+        solves::solve(&rt, alloc, *log, *events, budget, answers)?;
+    }
+    Ok(())
+}
+
+#[test]
+fn logs_are_replayed(rt: HostRuntime) -> Result<(), Fail> {
+    let alloc = rt.alloc();
+    for (image, log, budget, transcript) in &replays::REPLAYED {
+        replays::replay(&rt, alloc, *image, *log, budget, *transcript)?;
     }
     Ok(())
 }
@@ -94,7 +137,7 @@ fn every_fault_is_told(rt: HostRuntime) -> Result<(), Fail> {
 #[test]
 fn numbers_and_lines_of_statuses(rt: HostRuntime) -> Result<(), Fail> {
     let alloc = rt.alloc();
-    for (status, code, line) in &statuses::STATUSES {
+    for (status, code, line) in &statuses::statuses() {
         assert_eq!(rt; status.code(), *code);
         let text = status_text(alloc, status)?;
         let line = contents::bytes_of(alloc, Content::Text(line))?;

@@ -1,7 +1,6 @@
 // `arena`: the summary of an arena that was recorded and replayed, whatever the interleaving.
 use super::contents::Content;
 use super::rows::{DONE, Row};
-use light_top::Status;
 
 pub static ARENAS: [Row; 4] = [
     Row {
@@ -39,7 +38,7 @@ pub static FAULTS: [Row; 2] = [
     Row {
         words: "arena 7",
         puts: &[2],
-        status: Status::SinkFault,
+        status: "output fault",
         text: Content::Text("arena"),
         ..DONE
     },

@@ -1,4 +1,5 @@
 // What stands in a file or was printed, as a row tells it.
+use light_base::Tag;
 use std::alloc::{AllocError, Global};
 
 // In a text a slash stands for the end of a line. Bytes are told in hexadecimal digits.
@@ -12,6 +13,8 @@ pub enum Content {
     Sized(&'static str, usize),
     // A text, and then so many outputs, which count from 0.
     Counted(&'static str, u32),
+    // The schedule of these events, each told as `thread:step`, with a space between two.
+    Order(&'static str),
 }
 
 // One thread that halts at once.
@@ -80,6 +83,26 @@ fn bytes_of_text(alloc: Global, text: &str) -> Result<Vec<u8>, AllocError> {
     Ok(bytes)
 }
 
+// The four bytes of an event in a schedule.
+fn bytes_of_event(text: &str) -> Option<[u8; 4]> {
+    let (thread, step) = text.split_once(':')?;
+    let tag = Tag::of(thread.parse().ok()?, step.parse().ok()?)?;
+    Some(tag.bits().to_be_bytes())
+}
+
+fn bytes_of_order(alloc: Global, order: &str) -> Result<Vec<u8>, AllocError> {
+    let mut events = Vec::new(alloc);
+    let mut count: u32 = 0;
+    for event in order.split_whitespace().filter_map(bytes_of_event) {
+        events.extend_from_slice(&event)?;
+        count = count.saturating_add(1);
+    }
+    let mut bytes = Vec::from_slice(alloc, b"LSC1")?;
+    bytes.extend_from_slice(&count.to_be_bytes())?;
+    bytes.extend_from_slice(&events)?;
+    Ok(bytes)
+}
+
 // The bytes that are told; none of a file that is not there.
 pub fn bytes_of(alloc: Global, content: Content) -> Result<Vec<u8>, AllocError> {
     match content {
@@ -99,5 +122,6 @@ pub fn bytes_of(alloc: Global, content: Content) -> Result<Vec<u8>, AllocError> 
             }
             Ok(bytes)
         }
+        Content::Order(order) => bytes_of_order(alloc, order),
     }
 }

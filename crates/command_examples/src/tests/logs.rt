@@ -2,8 +2,6 @@
 use super::contents::Content;
 use super::recordings::{OWN_WRITE_READ_BYTES, OWN_WRITE_READ_LOG};
 use super::rows::{DONE, Row};
-use light_top::Status;
-use log_file::{LogFault, LogKind};
 
 // The log of a thread that reads what it wrote, in version 1 of the format.
 pub const OLD_LOG: Content = Content::Hex(
@@ -11,7 +9,7 @@ pub const OLD_LOG: Content = Content::Hex(
 );
 
 // The log of a thread that reads word 0, word 1 and word 0 again: one entry round another.
-const READS_ROUND_LOG: Content = Content::Hex(
+pub const READS_ROUND_LOG: Content = Content::Hex(
     "4c4c473201000222ec1cb41d85003fe5172f77ea21df3f1270283e8f906e66df2301cde90553b4000000640000006400000064000000000000000003000000030000000200000000000000000000000000000000000000000001000000030001000000000000000200000002",
 );
 
@@ -52,10 +50,7 @@ pub static REFUSED: [Row; 20] = [
                 "004c4732010001b4ccf6448bc45676a64744e28389f90c21d30e4190e9c413417dc0164e6fc1e5000000640000006400000064000000000000000002000000040000000100000000100000010000100000010000000200000002",
             ),
         )],
-        status: Status::LogRefused(LogFault {
-            kind: LogKind::Magic,
-            at: 0,
-        }),
+        status: "log refused kind 2 at 0",
         ..DONE
     },
     // No threads
@@ -67,10 +62,7 @@ pub static REFUSED: [Row; 20] = [
                 "4c4c4732000001b4ccf6448bc45676a64744e28389f90c21d30e4190e9c413417dc0164e6fc1e5000000640000006400000064000000000000000002000000040000000100000000100000010000100000010000000200000002",
             ),
         )],
-        status: Status::LogRefused(LogFault {
-            kind: LogKind::Counts,
-            at: 4,
-        }),
+        status: "log refused kind 3 at 4",
         ..DONE
     },
     // An end that there is not
@@ -82,10 +74,7 @@ pub static REFUSED: [Row; 20] = [
                 "4c4c4732010001b4ccf6448bc45676a64744e28389f90c21d30e4190e9c413417dc0164e6fc1e5000000640000006400000064070000000000000002000000040000000100000000100000010000100000010000000200000002",
             ),
         )],
-        status: Status::LogRefused(LogFault {
-            kind: LogKind::EndCode,
-            at: 51,
-        }),
+        status: "log refused kind 4 at 51",
         ..DONE
     },
     // An address at an end without one
@@ -97,10 +86,7 @@ pub static REFUSED: [Row; 20] = [
                 "4c4c4732010001b4ccf6448bc45676a64744e28389f90c21d30e4190e9c413417dc0164e6fc1e5000000640000006400000064000000000100000002000000040000000100000000100000010000100000010000000200000002",
             ),
         )],
-        status: Status::LogRefused(LogFault {
-            kind: LogKind::EndCode,
-            at: 51,
-        }),
+        status: "log refused kind 4 at 51",
         ..DONE
     },
     // A last tag of a step that was not taken
@@ -112,10 +98,7 @@ pub static REFUSED: [Row; 20] = [
                 "4c4c4732010001b4ccf6448bc45676a64744e28389f90c21d30e4190e9c413417dc0164e6fc1e5000000640000006400000064000000000000000002000000040000000100000000100000030000100000010000000200000002",
             ),
         )],
-        status: Status::LogRefused(LogFault {
-            kind: LogKind::Source,
-            at: 72,
-        }),
+        status: "log refused kind 7 at 72",
         ..DONE
     },
     // An entry from step 0 on
@@ -127,10 +110,7 @@ pub static REFUSED: [Row; 20] = [
                 "4c4c4732010001b4ccf6448bc45676a64744e28389f90c21d30e4190e9c413417dc0164e6fc1e5000000640000006400000064000000000000000002000000040000000100000000100000010000100000010000000000000002",
             ),
         )],
-        status: Status::LogRefused(LogFault {
-            kind: LogKind::Order,
-            at: 76,
-        }),
+        status: "log refused kind 5 at 76",
         ..DONE
     },
     // An entry that ends before it begins
@@ -142,10 +122,7 @@ pub static REFUSED: [Row; 20] = [
                 "4c4c4732010001b4ccf6448bc45676a64744e28389f90c21d30e4190e9c413417dc0164e6fc1e5000000640000006400000064000000000000000002000000040000000100000000100000010000100000010000000300000002",
             ),
         )],
-        status: Status::LogRefused(LogFault {
-            kind: LogKind::Range,
-            at: 76,
-        }),
+        status: "log refused kind 6 at 76",
         ..DONE
     },
     // An entry past the last step
@@ -157,10 +134,7 @@ pub static REFUSED: [Row; 20] = [
                 "4c4c4732010001b4ccf6448bc45676a64744e28389f90c21d30e4190e9c413417dc0164e6fc1e5000000640000006400000064000000000000000002000000040000000100000000100000010000100000010000000200000003",
             ),
         )],
-        status: Status::LogRefused(LogFault {
-            kind: LogKind::Range,
-            at: 76,
-        }),
+        status: "log refused kind 6 at 76",
         ..DONE
     },
     // A source that is no step
@@ -172,10 +146,7 @@ pub static REFUSED: [Row; 20] = [
                 "4c4c4732010001b4ccf6448bc45676a64744e28389f90c21d30e4190e9c413417dc0164e6fc1e5000000640000006400000064000000000000000002000000040000000100000000100000010000100000030000000200000002",
             ),
         )],
-        status: Status::LogRefused(LogFault {
-            kind: LogKind::Source,
-            at: 76,
-        }),
+        status: "log refused kind 7 at 76",
         ..DONE
     },
     // A word that there is not
@@ -187,10 +158,7 @@ pub static REFUSED: [Row; 20] = [
                 "4c4c4732010001b4ccf6448bc45676a64744e28389f90c21d30e4190e9c413417dc0164e6fc1e5000000640000006400000064000000000000000002000000040000000100000000100000010001100000010000000200000002",
             ),
         )],
-        status: Status::LogRefused(LogFault {
-            kind: LogKind::Word,
-            at: 76,
-        }),
+        status: "log refused kind 8 at 76",
         ..DONE
     },
     // Two entries announced
@@ -202,10 +170,7 @@ pub static REFUSED: [Row; 20] = [
                 "4c4c4732010001b4ccf6448bc45676a64744e28389f90c21d30e4190e9c413417dc0164e6fc1e5000000640000006400000064000000000000000002000000040000000200000000100000010000100000010000000200000002",
             ),
         )],
-        status: Status::LogRefused(LogFault {
-            kind: LogKind::Short,
-            at: 90,
-        }),
+        status: "log refused kind 1 at 90",
         ..DONE
     },
     // No entry announced
@@ -217,10 +182,7 @@ pub static REFUSED: [Row; 20] = [
                 "4c4c4732010001b4ccf6448bc45676a64744e28389f90c21d30e4190e9c413417dc0164e6fc1e5000000640000006400000064000000000000000002000000040000000000000000100000010000100000010000000200000002",
             ),
         )],
-        status: Status::LogRefused(LogFault {
-            kind: LogKind::Long,
-            at: 76,
-        }),
+        status: "log refused kind 11 at 76",
         ..DONE
     },
     // Entries out of order
@@ -232,10 +194,7 @@ pub static REFUSED: [Row; 20] = [
                 "4c4c473201000222ec1cb41d85003fe5172f77ea21df3f1270283e8f906e66df2301cde90553b4000000640000006400000064000000000000000003000000030000000200000000000000000000000000010000000000000002000000020000000000000000000100000003",
             ),
         )],
-        status: Status::LogRefused(LogFault {
-            kind: LogKind::Order,
-            at: 94,
-        }),
+        status: "log refused kind 5 at 94",
         ..DONE
     },
     // A pair twice
@@ -247,10 +206,7 @@ pub static REFUSED: [Row; 20] = [
                 "4c4c473201000222ec1cb41d85003fe5172f77ea21df3f1270283e8f906e66df2301cde90553b4000000640000006400000064000000000000000003000000030000000200000000000000000000000000000000000000000001000000030000000000000000000200000002",
             ),
         )],
-        status: Status::LogRefused(LogFault {
-            kind: LogKind::Twice,
-            at: 94,
-        }),
+        status: "log refused kind 9 at 94",
         ..DONE
     },
     // An overlap
@@ -262,10 +218,7 @@ pub static REFUSED: [Row; 20] = [
                 "4c4c473201000222ec1cb41d85003fe5172f77ea21df3f1270283e8f906e66df2301cde90553b4000000640000006400000064000000000000000003000000030000000200000000000000000000000000000000000000000001000000030000100000010000000200000002",
             ),
         )],
-        status: Status::LogRefused(LogFault {
-            kind: LogKind::Overlap,
-            at: 94,
-        }),
+        status: "log refused kind 10 at 94",
         ..DONE
     },
     // One byte less
@@ -277,10 +230,7 @@ pub static REFUSED: [Row; 20] = [
                 "4c4c473201000222ec1cb41d85003fe5172f77ea21df3f1270283e8f906e66df2301cde90553b40000006400000064000000640000000000000000030000000300000002000000000000000000000000000000000000000000010000000300010000000000000002000000",
             ),
         )],
-        status: Status::LogRefused(LogFault {
-            kind: LogKind::Short,
-            at: 107,
-        }),
+        status: "log refused kind 1 at 107",
         ..DONE
     },
     // One byte more
@@ -292,35 +242,26 @@ pub static REFUSED: [Row; 20] = [
                 "4c4c473201000222ec1cb41d85003fe5172f77ea21df3f1270283e8f906e66df2301cde90553b400000064000000640000006400000000000000000300000003000000020000000000000000000000000000000000000000000100000003000100000000000000020000000200",
             ),
         )],
-        status: Status::LogRefused(LogFault {
-            kind: LogKind::Long,
-            at: 108,
-        }),
+        status: "log refused kind 11 at 108",
         ..DONE
     },
     Row {
         words: "show l",
         files: &[("l", OLD_LOG)],
-        status: Status::LogRefused(LogFault {
-            kind: LogKind::Magic,
-            at: 0,
-        }),
+        status: "log refused kind 2 at 0",
         ..DONE
     },
     Row {
         words: "upgrade o l",
         files: &[("o", OWN_WRITE_READ_LOG)],
-        status: Status::LogRefused(LogFault {
-            kind: LogKind::Magic,
-            at: 0,
-        }),
+        status: "log refused kind 2 at 0",
         after: &[("l", Content::Absent)],
         ..DONE
     },
     Row {
         words: "show l",
         files: &[],
-        status: Status::StoreFault,
+        status: "store fault",
         ..DONE
     },
 ];
@@ -330,73 +271,49 @@ pub static CUT: [Row; 8] = [
     Row {
         words: "show l",
         files: &[("l", Content::Sized(OWN_WRITE_READ_BYTES, 0))],
-        status: Status::LogRefused(LogFault {
-            kind: LogKind::Short,
-            at: 0,
-        }),
+        status: "log refused kind 1 at 0",
         ..DONE
     },
     Row {
         words: "show l",
         files: &[("l", Content::Sized(OWN_WRITE_READ_BYTES, 50))],
-        status: Status::LogRefused(LogFault {
-            kind: LogKind::Short,
-            at: 50,
-        }),
+        status: "log refused kind 1 at 50",
         ..DONE
     },
     Row {
         words: "show l",
         files: &[("l", Content::Sized(OWN_WRITE_READ_BYTES, 51))],
-        status: Status::LogRefused(LogFault {
-            kind: LogKind::Short,
-            at: 51,
-        }),
+        status: "log refused kind 1 at 51",
         ..DONE
     },
     Row {
         words: "show l",
         files: &[("l", Content::Sized(OWN_WRITE_READ_BYTES, 71))],
-        status: Status::LogRefused(LogFault {
-            kind: LogKind::Short,
-            at: 71,
-        }),
+        status: "log refused kind 1 at 71",
         ..DONE
     },
     Row {
         words: "show l",
         files: &[("l", Content::Sized(OWN_WRITE_READ_BYTES, 72))],
-        status: Status::LogRefused(LogFault {
-            kind: LogKind::Short,
-            at: 72,
-        }),
+        status: "log refused kind 1 at 72",
         ..DONE
     },
     Row {
         words: "show l",
         files: &[("l", Content::Sized(OWN_WRITE_READ_BYTES, 75))],
-        status: Status::LogRefused(LogFault {
-            kind: LogKind::Short,
-            at: 75,
-        }),
+        status: "log refused kind 1 at 75",
         ..DONE
     },
     Row {
         words: "show l",
         files: &[("l", Content::Sized(OWN_WRITE_READ_BYTES, 76))],
-        status: Status::LogRefused(LogFault {
-            kind: LogKind::Short,
-            at: 76,
-        }),
+        status: "log refused kind 1 at 76",
         ..DONE
     },
     Row {
         words: "show l",
         files: &[("l", Content::Sized(OWN_WRITE_READ_BYTES, 89))],
-        status: Status::LogRefused(LogFault {
-            kind: LogKind::Short,
-            at: 89,
-        }),
+        status: "log refused kind 1 at 89",
         ..DONE
     },
 ];

@@ -1,7 +1,6 @@
 // A thread may put out 65,536 values, and ends before it puts out one more.
 use super::contents::Content;
 use super::rows::{DONE, Row};
-use light_top::Status;
 
 // They count up from 0, while the next one is below 65,536, or below 65,537.
 const MOST_SOURCE: Content = Content::Text(

@@ -1,13 +1,12 @@
 // `record`: the log that is saved and the transcript that is printed. The digests are those of another program.
 use super::contents::{Content, LOST_UPDATE, OWN_WRITE_READ, SMALLEST, SMALLEST_TEXT};
 use super::rows::{DONE, Row};
-use light_top::Status;
 
 // The log of the smallest program under limits of 10.
 const SMALLEST_LOG_BYTES: &str =
     "4c4c4732 01 0001 03c0797a3fa7c306a00ed5c26b8fc1a0cdcc1dfd5ace36b9d02276973157950b 0000000a 0000000a 0000000a 00 00000000 00000000 00000000 00000000 00000000 00000000";
 
-const SMALLEST_LOG: Content = Content::Hex(SMALLEST_LOG_BYTES);
+pub const SMALLEST_LOG: Content = Content::Hex(SMALLEST_LOG_BYTES);
 
 // The log of a thread that reads what it wrote, under limits of 100: one entry.
 pub const OWN_WRITE_READ_BYTES: &str =
@@ -16,7 +15,7 @@ pub const OWN_WRITE_READ_BYTES: &str =
 pub const OWN_WRITE_READ_LOG: Content = Content::Hex(OWN_WRITE_READ_BYTES);
 
 // The log of two threads that may take no step.
-const NO_STEPS_LOG: Content = Content::Hex(
+pub const NO_STEPS_LOG: Content = Content::Hex(
     "4c4c4732 02 0001 cd76f743851e5d628d83f0d36718aea1600063245992e8e8a0cb1134d7692f8d 00000000 00000064 00000064 03 00000000 00000000 00000000 00000000 00000000 03 00000000 00000000 00000000 00000000 00000000 00000000",
 );
 
@@ -67,7 +66,7 @@ pub static FAULTS: [Row; 3] = [
         words: "record i l 10 10 10",
         files: &[("i", SMALLEST)],
         calls: &[2],
-        status: Status::StoreFault,
+        status: "store fault",
         after: &[("l", Content::Sized(SMALLEST_LOG_BYTES, 38))],
         ..DONE
     },
@@ -75,7 +74,7 @@ pub static FAULTS: [Row; 3] = [
         words: "record i l 10 10 10",
         files: &[("i", SMALLEST)],
         calls: &[1],
-        status: Status::StoreFault,
+        status: "store fault",
         after: &[("l", Content::Absent)],
         ..DONE
     },
@@ -83,7 +82,7 @@ pub static FAULTS: [Row; 3] = [
         words: "record i l 10 10 10",
         files: &[("i", SMALLEST)],
         puts: &[2],
-        status: Status::SinkFault,
+        status: "output fault",
         text: Content::Text("threa"),
         after: &[("l", SMALLEST_LOG)],
         ..DONE

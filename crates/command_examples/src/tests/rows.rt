@@ -1,21 +1,22 @@
 // A row of a table, and the helper that runs it.
 use super::contents::{Content, bytes_of};
+use super::told::told;
 use light_base::{MemSink, MemStore};
-use light_top::{OpenGate, Status, light};
+use light_top::{OpenGate, light};
 use std::alloc::{AllocError, Global};
 use std::process::Abort;
 use std::test::Fail;
 use std::thread::Threads;
 
-// A command, the files that it finds, the calls of the store and the puts that fail, and how it ends: its status, what
-// it printed, and the files that changed. All other files stay.
+// A command, the files that it finds, the calls of the store and the puts that fail, and how it ends: its status as `told` says
+// it, what it printed, and the files that changed. All other files stay.
 #[derive(Clone, Copy)]
 pub struct Row {
     pub words: &'static str,
     pub files: &'static [(&'static str, Content)],
     pub calls: &'static [u64],
     pub puts: &'static [u64],
-    pub status: Status,
+    pub status: &'static str,
     pub text: Content,
     pub after: &'static [(&'static str, Content)],
 }
@@ -26,7 +27,7 @@ pub const DONE: Row = Row {
     files: &[],
     calls: &[],
     puts: &[],
-    status: Status::Ok,
+    status: "",
     text: Content::Text(""),
     after: &[],
 };
@@ -53,6 +54,29 @@ pub fn holds(
     }
 }
 
+// A store with these files, of which no call fails.
+pub fn store_of(alloc: Global, files: &[(&'static str, Content)]) -> Result<MemStore, Fail> {
+    let mut store = MemStore::new(alloc, Vec::new(alloc));
+    for (name, content) in files {
+        store.put_file(name, &bytes_of(alloc, *content)?)?;
+    }
+    Ok(store)
+}
+
+// How the command of a line ends, as `told` says it, and what it prints.
+pub fn call<R: Abort + Threads + Sync>(
+    rt: &R,
+    alloc: Global,
+    store: &mut MemStore,
+    line: &str,
+) -> Result<(String, Vec<u8>), Fail> {
+    let words = words_of(alloc, line)?;
+    let mut out = MemSink::new(alloc, 5, Vec::new(alloc));
+    let status = light(rt, alloc, &words, store, &mut out, &OpenGate);
+    let text = Vec::from_slice(alloc, out.taken())?;
+    Ok((told(alloc, &status)?, text))
+}
+
 // Runs a row's command, and looks at what it left. A put takes at most five bytes.
 pub fn check<R: Abort + Threads + Sync>(rt: &R, alloc: Global, row: &Row) -> Result<(), Fail> {
     let mut store = MemStore::new(alloc, Vec::from_slice(alloc, row.calls)?);
@@ -62,7 +86,7 @@ pub fn check<R: Abort + Threads + Sync>(rt: &R, alloc: Global, row: &Row) -> Res
     }
     let words = words_of(alloc, row.words)?;
     let status = light(rt, alloc, &words, &mut store, &mut out, &OpenGate);
-    assert_eq!(rt; status, row.status, "{}", row.words);
+    assert_eq!(rt; told(alloc, &status)?.as_str(), row.status, "{}", row.words);
     let text = bytes_of(alloc, row.text)?;
     assert!(rt; out.taken() == text.as_slice(), "{}", row.words);
     for (name, content) in row.files {

@@ -3,8 +3,6 @@ use super::contents::{
     Content, INITIAL_VALUE, OWN_WRITE_READ, SMALLEST, SMALLEST_BYTES, SMALLEST_TEXT,
 };
 use super::rows::{DONE, Row};
-use light_top::Status;
-use machine::{ImageFault, ImageKind};
 
 // A thread that loads and jumps back.
 const LOADS: Content = Content::Hex(
@@ -52,7 +50,7 @@ pub static REFUSED: [Row; 5] = [
     Row {
         words: "run i 1 1 1",
         files: &[("i", Content::Sized("", 8_388_609))],
-        status: Status::TooLong { taken: 8_388_609 },
+        status: "too long: 8388609",
         ..DONE
     },
     Row {
@@ -61,11 +59,7 @@ pub static REFUSED: [Row; 5] = [
             "i",
             Content::Hex("4c494d31 01 0001 0001 00000000 1600000000000000"),
         )],
-        status: Status::ImageRefused(ImageFault {
-            kind: ImageKind::Opcode,
-            thread: 0,
-            at: 0,
-        }),
+        status: "image refused kind 4 thread 0 at 0",
         ..DONE
     },
     Row {
@@ -74,31 +68,19 @@ pub static REFUSED: [Row; 5] = [
             "i",
             Content::Hex("4c494d31 01 0001 0001 00000000 0001000000000000"),
         )],
-        status: Status::ImageRefused(ImageFault {
-            kind: ImageKind::Unused,
-            thread: 0,
-            at: 0,
-        }),
+        status: "image refused kind 6 thread 0 at 0",
         ..DONE
     },
     Row {
         words: "run i 1 1 1",
         files: &[("i", Content::Sized(SMALLEST_BYTES, 8_388_608))],
-        status: Status::ImageRefused(ImageFault {
-            kind: ImageKind::Long,
-            thread: 0,
-            at: 0,
-        }),
+        status: "image refused kind 8 thread 0 at 0",
         ..DONE
     },
     Row {
         words: "run i 1 1 1",
         files: &[("i", Content::Sized(SMALLEST_BYTES, 20))],
-        status: Status::ImageRefused(ImageFault {
-            kind: ImageKind::Short,
-            thread: 0,
-            at: 0,
-        }),
+        status: "image refused kind 1 thread 0 at 0",
         ..DONE
     },
 ];
@@ -109,7 +91,7 @@ pub static FAULTS: [Row; 4] = [
         words: "run i 1 1 1",
         files: &[("i", SMALLEST)],
         calls: &[1],
-        status: Status::StoreFault,
+        status: "store fault",
         ..DONE
     },
     Row {
@@ -123,12 +105,12 @@ pub static FAULTS: [Row; 4] = [
         words: "run x 1 1 1",
         files: &[("i", SMALLEST)],
         calls: &[2],
-        status: Status::StoreFault,
+        status: "store fault",
         ..DONE
     },
     Row {
         words: "run x 1 1 1",
-        status: Status::StoreFault,
+        status: "store fault",
         ..DONE
     },
 ];

@@ -3,9 +3,6 @@ use super::contents::{
     Content, INITIAL_VALUE, MESSAGE, OWN_WRITE_READ, SMALLEST, SMALLEST_BYTES, SMALLEST_SOURCE,
 };
 use super::rows::{DONE, Row};
-use assembler::{AsmFault, AsmKind};
-use light_top::Status;
-use machine::{ImageFault, ImageKind};
 
 const MESSAGE_SOURCE: Content = Content::Text(
     "; message passing/.words 2/.thread/set r1, 42/store r1 r0 0/set r2 1/store r2 r0 1/.thread/wait: load r1 r0 1/jeq r1 r0 wait/load r2 r0 0/out r2/",
@@ -86,80 +83,63 @@ pub static REFUSED: [Row; 9] = [
     Row {
         words: "asm t i",
         files: &[("t", Content::Text(""))],
-        status: Status::AsmRefused(AsmFault {
-            line: 1,
-            kind: AsmKind::NoThread,
-        }),
+        status: "text refused line 1 kind 9",
         after: &[("i", Content::Absent)],
         ..DONE
     },
     Row {
         words: "asm t i",
         files: &[("t", Content::Text(".thread/fetch r1"))],
-        status: Status::AsmRefused(AsmFault {
-            line: 2,
-            kind: AsmKind::Mnemonic,
-        }),
+        status: "text refused line 2 kind 2",
         after: &[("i", Content::Absent)],
         ..DONE
     },
     Row {
         words: "asm t i",
         files: &[("t", Content::Text(".words 1/.thread/jmp nowhere"))],
-        status: Status::AsmRefused(AsmFault {
-            line: 3,
-            kind: AsmKind::Undefined,
-        }),
+        status: "text refused line 3 kind 7",
         after: &[("i", Content::Absent)],
         ..DONE
     },
     Row {
         words: "list t",
         files: &[("t", Content::Sized("", 8_388_609))],
-        status: Status::TooLong { taken: 8_388_609 },
+        status: "too long: 8388609",
         after: &[("i", Content::Absent)],
         ..DONE
     },
     Row {
         words: "asm t i",
         files: &[("t", Content::Sized("", 8_388_609))],
-        status: Status::TooLong { taken: 8_388_609 },
+        status: "too long: 8388609",
         after: &[("i", Content::Absent)],
         ..DONE
     },
     Row {
         words: "list t",
         files: &[("t", Content::Sized(SMALLEST_BYTES, 8_388_608))],
-        status: Status::ImageRefused(ImageFault {
-            kind: ImageKind::Long,
-            thread: 0,
-            at: 0,
-        }),
+        status: "image refused kind 8 thread 0 at 0",
         after: &[("i", Content::Absent)],
         ..DONE
     },
     Row {
         words: "list t",
         files: &[("t", SMALLEST_SOURCE)],
-        status: Status::ImageRefused(ImageFault {
-            kind: ImageKind::Magic,
-            thread: 0,
-            at: 0,
-        }),
+        status: "image refused kind 2 thread 0 at 0",
         after: &[("i", Content::Absent)],
         ..DONE
     },
     Row {
         words: "list none",
         files: &[("t", SMALLEST_SOURCE)],
-        status: Status::StoreFault,
+        status: "store fault",
         after: &[("i", Content::Absent)],
         ..DONE
     },
     Row {
         words: "asm none i",
         files: &[("t", SMALLEST_SOURCE)],
-        status: Status::StoreFault,
+        status: "store fault",
         after: &[("i", Content::Absent)],
         ..DONE
     },
@@ -172,7 +152,7 @@ pub static FAULTS: [Row; 5] = [
         files: &[("t", SMALLEST_SOURCE)],
         calls: &[1],
         puts: &[1],
-        status: Status::StoreFault,
+        status: "store fault",
         after: &[("i", Content::Absent)],
         ..DONE
     },
@@ -181,7 +161,7 @@ pub static FAULTS: [Row; 5] = [
         files: &[("t", SMALLEST_SOURCE)],
         calls: &[2],
         puts: &[1],
-        status: Status::StoreFault,
+        status: "store fault",
         after: &[("i", Content::Sized(SMALLEST_BYTES, 10))],
         ..DONE
     },
@@ -197,7 +177,7 @@ pub static FAULTS: [Row; 5] = [
         words: "list i",
         files: &[("i", SMALLEST)],
         calls: &[1],
-        status: Status::StoreFault,
+        status: "store fault",
         ..DONE
     },
     Row {

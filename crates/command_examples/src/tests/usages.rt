@@ -1,7 +1,6 @@
 // Words that are no command: neither the store nor the sink is called.
 use super::contents::{Content, SMALLEST};
 use super::rows::Row;
-use light_top::Status;
 
 // Each call of the store and each put would count a fault.
 pub const NO_COMMAND: Row = Row {
@@ -9,13 +8,13 @@ pub const NO_COMMAND: Row = Row {
     files: &[("i", SMALLEST)],
     calls: &[1, 2],
     puts: &[1, 2],
-    status: Status::Usage,
+    status: "usage",
     text: Content::Text(""),
     after: &[],
 };
 
 // With one space between two words.
-pub static USAGES: [&str; 58] = [
+pub static USAGES: [&str; 62] = [
     "",
     "run",
     "run i 07 1 1",
@@ -54,24 +53,28 @@ pub static USAGES: [&str; 58] = [
     "show l l",
     "upgrade o",
     "upgrade  l",
-    "check l",
-    "check l s 0",
-    "check  s",
-    "check l ",
     "solve l s",
-    "solve l s 1 1",
+    "solve l 1",
+    "solve  s 1",
     "solve l  1",
+    "solve l s 01",
     "solve l s 4294967296",
-    "solve l s 00",
-    "solve l s -1",
+    "solve l s 1 1",
+    "check l",
+    "check l ",
+    "check  s",
+    "check l s s",
+    "check l s 0",
     "replay i l s",
-    "replay i l 0",
-    "replay i l s 0 0",
-    "replay i  s 0",
-    "replay i l s 01",
+    "replay i l 1",
+    "replay  l s 1",
+    "replay i  s 1",
+    "replay i l  1",
+    "replay i l s -1",
+    "replay i l s 1 1",
     "arena",
-    "arena ",
+    "arena 07",
     "arena 4294967296",
-    "arena +7",
     "arena 7 7",
+    "audit i l 1",
 ];
