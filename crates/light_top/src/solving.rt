@@ -11,7 +11,6 @@ use crate::image::Image;
 use crate::order::Order;
 use crate::output::{Output, Saved};
 use crate::words::Name;
-use constraints::Problem;
 use dep_log::RunLog;
 use light_base::{Memory, put_decimal};
 use log_file::write_schedule;
