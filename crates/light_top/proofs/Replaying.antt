@@ -59,11 +59,13 @@ module _ (fit : HistoryRunsFit) (respect : HistoryEventsRespect) (files : Files)
     early s h = absurd (not_refused (command.Replay image name schedule budget) files wanted is_given old.files told s h.1.0)
 
     delivered : (s : Status) (output : Output) → IsReplayed had.loaded.program log schedule output → Delivered output old new s → Ending old new s
-    delivered status.Ok output is done =
-        (is.order, is.respects,
-        subst (λ (saved : Option Saved). new ≡ after old saved (transcript_of had.loaded.program had.limits had.inputs had.history)) is.kept
-        (subst (λ (text : List ℕ). new ≡ after old output.saved text)
-        (is.transcript.again had.limits had.inputs (sha256 had.loaded.bytes) had.history had.whole refl) done))
+    delivered status.Ok output is done = (
+      is.order,
+      is.respects,
+      subst (λ (saved : Option Saved). new ≡ after old saved (transcript_of had.loaded.program had.limits had.inputs had.history)) is.kept
+          (subst (λ (text : List ℕ). new ≡ after old output.saved text)
+          (is.transcript.again had.limits had.inputs (sha256 had.loaded.bytes) had.history had.whole refl) done),
+    )
     delivered status.StoreFault output is done = done.0
     delivered status.SinkFault output is done = done.0
     delivered status.Memory output is done = tt

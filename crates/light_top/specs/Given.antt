@@ -75,10 +75,10 @@ given (command.Run image limits inputs) files = do
   i ← image_in files image
   numbers ← inputs_in files inputs (length i.program.threads)
   Ok (task.Play i limits numbers)
-given (command.Record image log limits inputs) files = do
+given (command.Record image log limits crew inputs) files = do
   i ← image_in files image
   numbers ← inputs_in files inputs (length i.program.threads)
-  Ok (task.Record i log limits numbers)
+  Ok (task.Record i log limits crew numbers)
 given (command.Asm text image) files = do
   program ← text_in files text
   Ok (task.Assemble program image)

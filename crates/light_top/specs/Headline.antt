@@ -37,9 +37,9 @@ pub record HasRecorded (files : Files) (image log : List ℕ) (limits : LimitsVa
   pub done : new ≡ after old (Some (record { name = log; bytes = spelling (log_of_history loaded.program limits numbers (sha256 loaded.bytes) history) }))
       (transcript_of loaded.program limits numbers history)
 
--- what `record` has done where it ends well
+-- what `record` has done where it ends well, whichever workers ran the threads
 abbrev pub Records : Command → Outside → Outside → Status → Type 0
-Records (command.Record image log limits inputs) old new status.Ok = IfSome old.files (λ files. HasRecorded files image log limits inputs old new)
+Records (command.Record image log limits crew inputs) old new status.Ok = IfSome old.files (λ files. HasRecorded files image log limits inputs old new)
 Records command old new s = Unit {0}
 
 -- The file `image` holds the image of a program, and the file `log` is read as the log of a whole history of it, under some

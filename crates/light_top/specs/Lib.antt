@@ -1,3 +1,4 @@
+pub mod Crews
 pub mod Words
 pub mod Statuses
 pub mod Images

@@ -29,7 +29,7 @@ use Rattle.light_top.specs.declared.status.Status.TheVariants as status
 -- the inputs have a list for each thread of the program that they are for; an order is that of a file; a log is that of the image's program
 abbrev pub IsMatched : Task → Type 0
 IsMatched (task.Play image limits inputs) = length inputs ≡ length image.program.threads
-IsMatched (task.Record image log limits inputs) = length inputs ≡ length image.program.threads
+IsMatched (task.Record image log limits crew inputs) = length inputs ≡ length image.program.threads
 IsMatched (task.Check log order) = length order < 2 ^ 32
 IsMatched (task.Replay image log schedule budget) = logged_print log ≡ image_print image
 IsMatched _ = Unit {0}
@@ -43,8 +43,9 @@ abbrev pub Means : Task → Output → Type 0
 -- the transcript of the program's threads taking turns in rounds, with these inputs
 Means (task.Play image limits inputs) output =
     IsImage image.bytes image.program × (output ≡ printed (transcript_of image.program limits inputs (rounds_of image.program limits inputs)))
--- the transcript of one whole history of the program with these inputs, and the log of this very history, with the image's digest
-Means (task.Record image log limits inputs) output = IsImage image.bytes image.program ×
+-- the transcript of one whole history of the program with these inputs, and the log of this very history, with the image's digest;
+-- which workers run the threads changes nothing of that
+Means (task.Record image log limits crew inputs) output = IsImage image.bytes image.program ×
     ((history : List ℕ) × IsHistory image.program limits inputs history × IsRecorded image limits inputs log history output)
 -- the image of the program
 Means (task.Assemble program image) output = (bytes : List ℕ) × IsImage bytes program × (output ≡ saved image bytes)

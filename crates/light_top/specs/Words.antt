@@ -4,6 +4,7 @@ use Rattle.std.specs.Fmt.{decimal}
 use Rattle.std.specs.Str.{bytes_eq}
 use Rattle.std.specs.Str.Parse.{digits_value}
 use Rattle.machine.specs.Programs.{LimitsValue}
+use Rattle.light_top.specs.Crews.{CrewValue, crew_or_none}
 use Rattle.light_top.specs.declared.words.Command.{Command}
 use Rattle.light_top.specs.declared.words.Command.TheVariants as command
 
@@ -47,6 +48,24 @@ inputs_of (inputs ∷ []) = do
   Some (Some inputs)
 inputs_of _ = None
 
+-- WORKERS SLICE
+abbrev pub crew_of : List ℕ → List ℕ → Option CrewValue
+crew_of workers slice = do
+  w ← number_of 15 workers
+  s ← number_of 268435455 slice
+  crew_or_none w s
+
+-- nothing, or INPUTS, or WORKERS SLICE, or these and INPUTS
+abbrev pub form_of : List (List ℕ) → Option (Option CrewValue × Option (List ℕ))
+form_of [] = Some (None, None)
+form_of (inputs ∷ []) = do
+  inputs ← name_of inputs
+  Some (None, Some inputs)
+form_of (workers ∷ slice ∷ rest) = do
+  crew ← crew_of workers slice
+  inputs ← inputs_of rest
+  Some (Some crew, inputs)
+
 -- IMAGE STEPS INSTR ENTRIES, or these and INPUTS
 abbrev pub run_of : List (List ℕ) → Option Command
 run_of (image ∷ steps ∷ instr ∷ entries ∷ rest) = do
@@ -56,14 +75,14 @@ run_of (image ∷ steps ∷ instr ∷ entries ∷ rest) = do
   Some (command.Run image limits inputs)
 run_of _ = None
 
--- IMAGE LOG STEPS INSTR ENTRIES, or these and INPUTS
+-- IMAGE LOG STEPS INSTR ENTRIES, or these and WORKERS SLICE, and with or without INPUTS
 abbrev pub record_of : List (List ℕ) → Option Command
 record_of (image ∷ log ∷ steps ∷ instr ∷ entries ∷ rest) = do
   image ← name_of image
   log ← name_of log
   limits ← limits_of steps instr entries
-  inputs ← inputs_of rest
-  Some (command.Record image log limits inputs)
+  form ← form_of rest
+  Some (command.Record image log limits form.0 form.1)
 record_of _ = None
 
 -- TEXT IMAGE

@@ -3,6 +3,7 @@
 
 mod arenas;
 mod bytes;
+mod crew;
 mod delivery;
 mod image;
 mod loading;

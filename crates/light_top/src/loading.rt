@@ -304,6 +304,7 @@ pub fn take_up<'a, S: Store>(
             image,
             log,
             limits,
+            crew,
             inputs,
         } => {
             let image = load_image(alloc, store, &image)?;
@@ -313,6 +314,7 @@ pub fn take_up<'a, S: Store>(
                 image,
                 log,
                 limits,
+                crew,
                 inputs,
             })
         }

@@ -3,6 +3,7 @@ ghost use Rattle.std.specs.Prelude.{◌≡◌, ℕ, List, [], ◌∷◌, ◌++�
 ghost use Rattle.sha2.specs.Sha256.{sha256};
 ghost use Rattle.machine.specs.Runs.{rounds_of};
 ghost use Rattle.history.specs.Histories.{IsHistory};
+ghost use Rattle.recorder.specs.Records.{recorded_of};
 ghost use Rattle.log_file.specs.Spelling.{spelling};
 ghost use Rattle.transcript.specs.Transcripts.{transcript, transcript_of};
 ghost use Rattle.light_top.specs.Outputs.{printed_and_saved};
@@ -14,6 +15,7 @@ ghost use Rattle.light_top.specs.Tasks.{IsMatched, IsRecorded, Means, NotDone};
 use crate::Status;
 use crate::arenas::play_arena;
 use crate::bytes::Bytes;
+use crate::crew::Crew;
 use crate::image::Image;
 use crate::order::Order;
 use crate::output::{Output, Saved};
@@ -25,7 +27,7 @@ use light_base::Memory;
 use log_file::{digest_of, write_log};
 use log_text::show_text;
 use machine::{Inputs, Limits, Program, write_image};
-use recorder::{Gate, Recorded, record};
+use recorder::{Gate, Recorded, record, record_workers};
 use schedule_check::{Verdict, check};
 use std::alloc::Global;
 use std::thread::Threads;
@@ -45,6 +47,7 @@ pub enum Task<'a> {
         image: Image,
         log: Name<'a>,
         limits: Limits,
+        crew: Option<Crew>,
         inputs: Inputs,
     },
     /// To save the image of a program.
@@ -122,6 +125,37 @@ fn recording<'a>(
     })
 }
 
+// Records a program on the workers of a crew; without one, on a worker for each of its threads.
+fn record_with<R: Threads + Sync, G: Gate>(
+    rt: &R,
+    alloc: Global,
+    gate: &G,
+    program: &Program,
+    limits: &Limits,
+    crew: &Option<Crew>,
+    inputs: &Inputs,
+) -> Result<Recorded, Memory>
+    requires { length inputs.now ≡ length program.now.threads }
+    ensures { IfOk result (λ recorded. (history : List ℕ) × IsHistory program.now limits.now inputs.now history × (recorded ≡ recorded_of program.now limits.now inputs.now history)) }
+{
+    match crew {
+        Some(crew) => {
+            let workers = crew.workers();
+            record_workers(
+                rt,
+                alloc,
+                program,
+                limits,
+                inputs,
+                workers,
+                crew.slice(),
+                gate,
+            )
+        }
+        None => record(rt, alloc, program, limits, inputs, gate),
+    }
+}
+
 // Records a program on threads: the transcript and the log of one whole history.
 fn record_image<'a, R: Threads + Sync, G: Gate>(
     rt: &R,
@@ -129,13 +163,14 @@ fn record_image<'a, R: Threads + Sync, G: Gate>(
     gate: &G,
     image: &Image,
     limits: &Limits,
+    crew: &Option<Crew>,
     inputs: &Inputs,
     log: Name<'a>,
 ) -> Result<Output<'a>, Memory>
     requires { length inputs.now ≡ length image.now.program.threads }
     ensures { IfOk result (λ output. (history : List ℕ) × IsHistory image.now.program limits.now inputs.now history × IsRecorded image.now limits.now inputs.now log.entry history output) }
 {
-    let recorded = record(rt, alloc, image.program(), limits, inputs, gate)?;
+    let recorded = record_with(rt, alloc, gate, image.program(), limits, crew, inputs)?;
     recording(alloc, recorded, image.bytes(), log)
 }
 
@@ -216,9 +251,10 @@ pub fn perform<'a, R: Threads + Sync, G: Gate>(
             image,
             log,
             limits,
+            crew,
             inputs,
         } => {
-            let output = record_image(rt, alloc, gate, &image, &limits, &inputs, log)?;
+            let output = record_image(rt, alloc, gate, &image, &limits, &crew, &inputs, log)?;
             Ok(output)
         }
         Task::Assemble { program, image } => {

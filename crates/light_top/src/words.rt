@@ -1,7 +1,8 @@
 // The words of the command line.
 ghost use Rattle.std.specs.Prelude.{◌≡◌, ◌<◌, ◌^◌};
-ghost use Rattle.light_top.specs.Words.{is_plain, number_of, name_of, limits_of, inputs_of, texts, run_of, record_of, asm_of, list_of, show_of, upgrade_of, check_of, solve_of, replay_of, arena_of_words, command_of};
+ghost use Rattle.light_top.specs.Words.{is_plain, number_of, name_of, limits_of, inputs_of, crew_of, form_of, texts, run_of, record_of, asm_of, list_of, show_of, upgrade_of, check_of, solve_of, replay_of, arena_of_words, command_of};
 
+use crate::crew::Crew;
 use machine::Limits;
 use std::marker::Model;
 
@@ -46,11 +47,12 @@ pub enum Command<'a> {
         limits: Limits,
         inputs: Option<Name<'a>>,
     },
-    /// Plays it so, and saves the log.
+    /// Runs it on threads, and saves the log. Without a crew, each thread of the program has a worker of its own.
     Record {
         image: Name<'a>,
         log: Name<'a>,
         limits: Limits,
+        crew: Option<Crew>,
         inputs: Option<Name<'a>>,
     },
     /// Saves the image of the program that a text says.
@@ -146,6 +148,28 @@ fn inputs<'a>(words: &'a [String]) -> Option<Option<Name<'a>>>
     }
 }
 
+fn crew(workers: &str, slice: &str) -> Option<Crew>
+    ensures { result ≡ crew_of workers.now slice.now }
+{
+    let workers = number(workers, 15)?;
+    let slice = number(slice, 268_435_455)?;
+    Crew::new(workers as u8, slice)
+}
+
+// Which workers and which inputs these words name.
+fn form<'a>(words: &'a [String]) -> Option<(Option<Crew>, Option<Name<'a>>)>
+    ensures { result ≡ form_of (texts words.now) }
+{
+    match words {
+        [] => Some((None, None)),
+        [inputs] => Some((None, Some(Name::of(inputs.as_str())?))),
+        [workers, slice, rest @ ..] => {
+            let crew = crew(workers.as_str(), slice.as_str())?;
+            Some((Some(crew), inputs(rest)?))
+        }
+    }
+}
+
 fn run<'a>(words: &'a [String]) -> Option<Command<'a>>
     ensures { result ≡ run_of (texts words.now) }
 {
@@ -163,12 +187,19 @@ fn record<'a>(words: &'a [String]) -> Option<Command<'a>>
     ensures { result ≡ record_of (texts words.now) }
 {
     match words {
-        [image, log, steps, instr, entries, rest @ ..] => Some(Command::Record {
-            image: Name::of(image.as_str())?,
-            log: Name::of(log.as_str())?,
-            limits: limits(steps.as_str(), instr.as_str(), entries.as_str())?,
-            inputs: inputs(rest)?,
-        }),
+        [image, log, steps, instr, entries, rest @ ..] => {
+            let image = Name::of(image.as_str())?;
+            let log = Name::of(log.as_str())?;
+            let limits = limits(steps.as_str(), instr.as_str(), entries.as_str())?;
+            let (crew, inputs) = form(rest)?;
+            Some(Command::Record {
+                image,
+                log,
+                limits,
+                crew,
+                inputs,
+            })
+        }
         _ => None,
     }
 }
