@@ -12,6 +12,7 @@ mod output;
 mod print;
 mod solving;
 mod status;
+mod taking;
 mod task;
 mod top;
 mod words;

@@ -3,16 +3,14 @@ ghost use Rattle.std.specs.Prelude.{◌≡◌, ◌<◌, ◌^◌, ◌≤◌, leng
 ghost use Rattle.light_top.specs.Statuses.{most_bytes};
 ghost use Rattle.light_top.specs.Images.{as_text, as_inputs};
 ghost use Rattle.light_top.specs.Logs.{as_log, as_old_log, as_order, logged_print, image_print};
-ghost use Rattle.light_top.specs.Tasks.{IsMatched};
-ghost use Rattle.light_top.specs.Given.{file_in, image_in, text_in, numbers_in, inputs_in, matched, log_in, old_log_in, order_in, of_program, given, Gives, NotRead, NotGiven};
+ghost use Rattle.light_top.specs.Given.{file_in, image_in, text_in, numbers_in, inputs_in, matched, log_in, old_log_in, order_in, of_program, Gives, NotRead, NotGiven};
 
 use crate::Status;
 use crate::bytes::Bytes;
 use crate::image::Image;
 use crate::order::Order;
 use crate::print::logged_print;
-use crate::task::Task;
-use crate::words::{Command, Name};
+use crate::words::Name;
 use assembler::{AsmFault, AsmKind, assemble};
 use dep_log::RunLog;
 use light_base::{Memory, Store, StoreFault};
@@ -41,8 +39,8 @@ fn load<S: Store>(alloc: Global, store: &mut S, name: &Name<'_>) -> Result<Bytes
     }
 }
 
-// The image in a file.
-fn load_image<S: Store>(alloc: Global, store: &mut S, name: &Name<'_>) -> Result<Image, Status>
+/// The image in a file.
+pub fn load_image<S: Store>(alloc: Global, store: &mut S, name: &Name<'_>) -> Result<Image, Status>
     ensures ok { IfOk result (Gives (S.files store.old) (λ files. image_in files name.now)) }
     ensures err { IfErr result (NotGiven (S.files store.old) (S.sound store.old) (S.faults store.old) (S.faults store.new) (λ files. image_in files name.now)) }
 
@@ -72,8 +70,8 @@ fn assemble_text(alloc: Global, text: &[u8]) -> Result<Program, Status>
     }
 }
 
-// The program of the text in a file.
-fn load_text<S: Store>(alloc: Global, store: &mut S, name: &Name<'_>) -> Result<Program, Status>
+/// The program of the text in a file.
+pub fn load_text<S: Store>(alloc: Global, store: &mut S, name: &Name<'_>) -> Result<Program, Status>
     ensures ok { IfOk result (Gives (S.files store.old) (λ files. text_in files name.now)) }
     ensures err { IfErr result (NotGiven (S.files store.old) (S.sound store.old) (S.faults store.old) (S.faults store.new) (λ files. text_in files name.now)) }
 
@@ -132,8 +130,8 @@ fn matched(inputs: Inputs, threads: usize) -> Result<Inputs, Status>
     }
 }
 
-// The inputs in a file; without a name, an empty list for each of so many threads.
-fn load_inputs<S: Store>(
+/// The inputs in a file; without a name, an empty list for each of so many threads.
+pub fn load_inputs<S: Store>(
     alloc: Global,
     store: &mut S,
     name: &Option<Name<'_>>,
@@ -197,8 +195,8 @@ fn read_of_old(alloc: Global, bytes: &[u8]) -> Result<RunLog, Status>
     }
 }
 
-// The log in a file.
-fn load_log<S: Store>(alloc: Global, store: &mut S, name: &Name<'_>) -> Result<RunLog, Status>
+/// The log in a file.
+pub fn load_log<S: Store>(alloc: Global, store: &mut S, name: &Name<'_>) -> Result<RunLog, Status>
     ensures ok { IfOk result (Gives (S.files store.old) (λ files. log_in files name.now)) }
     ensures err { IfErr result (NotGiven (S.files store.old) (S.sound store.old) (S.faults store.old) (S.faults store.new) (λ files. log_in files name.now)) }
 
@@ -210,8 +208,8 @@ fn load_log<S: Store>(alloc: Global, store: &mut S, name: &Name<'_>) -> Result<R
     read_today(alloc, bytes.as_slice())
 }
 
-// The log of version 1 in a file.
-fn load_old<S: Store>(alloc: Global, store: &mut S, name: &Name<'_>) -> Result<RunLog, Status>
+/// The log of version 1 in a file.
+pub fn load_old<S: Store>(alloc: Global, store: &mut S, name: &Name<'_>) -> Result<RunLog, Status>
     ensures ok { IfOk result (Gives (S.files store.old) (λ files. old_log_in files name.now)) }
     ensures err { IfErr result (NotGiven (S.files store.old) (S.sound store.old) (S.faults store.old) (S.faults store.new) (λ files. old_log_in files name.now)) }
 
@@ -242,8 +240,8 @@ fn read_order(alloc: Global, bytes: &[u8]) -> Result<Order, Status>
     }
 }
 
-// The order in a file.
-fn load_order<S: Store>(alloc: Global, store: &mut S, name: &Name<'_>) -> Result<Order, Status>
+/// The order in a file.
+pub fn load_order<S: Store>(alloc: Global, store: &mut S, name: &Name<'_>) -> Result<Order, Status>
     ensures ok { IfOk result (Gives (S.files store.old) (λ files. order_in files name.now)) }
     ensures few { IfOk result (λ order. length order < 2 ^ 32) }
     ensures err { IfErr result (NotGiven (S.files store.old) (S.sound store.old) (S.faults store.old) (S.faults store.new) (λ files. order_in files name.now)) }
@@ -256,8 +254,8 @@ fn load_order<S: Store>(alloc: Global, store: &mut S, name: &Name<'_>) -> Result
     read_order(alloc, bytes.as_slice())
 }
 
-// A log that is of the image's program.
-fn of_program(image: &Image, log: RunLog) -> Result<RunLog, Status>
+/// A log that is of the image's program.
+pub fn of_program(image: &Image, log: RunLog) -> Result<RunLog, Status>
     ensures ok { IfOk result (λ own. of_program image.now log ≡ Ok own) }
     ensures same { IfOk result (λ own. logged_print own ≡ image_print image.now) }
     ensures err { IfErr result (NotRead (of_program image.now log)) }
@@ -268,108 +266,5 @@ fn of_program(image: &Image, log: RunLog) -> Result<RunLog, Status>
         Ok(log)
     } else {
         Err(Status::WrongProgram { logged, found })
-    }
-}
-
-/// Loads what a command names, and reads it: the task that is to be done. The files stay as they are.
-pub fn take_up<'a, S: Store>(
-    alloc: Global,
-    store: &mut S,
-    command: Command<'a>,
-) -> Result<Task<'a>, Status>
-    ensures ok { IfOk result (Gives (S.files store.old) (given command.entry)) }
-    ensures matched { IfOk result IsMatched }
-    ensures err { IfErr result (NotGiven (S.files store.old) (S.sound store.old) (S.faults store.old) (S.faults store.new) (given command.entry)) }
-
-    ensures files { S.files store.new ≡ S.files store.old }
-    ensures sound { S.sound store.new ≡ S.sound store.old }
-    ensures quiet { OnOk result (S.faults store.new ≡ S.faults store.old) }
-{
-    match command {
-        Command::Run {
-            image,
-            limits,
-            inputs,
-        } => {
-            let image = load_image(alloc, store, &image)?;
-            let threads = image.program().threads_count();
-            let inputs = load_inputs(alloc, store, &inputs, threads)?;
-            Ok(Task::Play {
-                image,
-                limits,
-                inputs,
-            })
-        }
-        Command::Record {
-            image,
-            log,
-            limits,
-            crew,
-            inputs,
-        } => {
-            let image = load_image(alloc, store, &image)?;
-            let threads = image.program().threads_count();
-            let inputs = load_inputs(alloc, store, &inputs, threads)?;
-            Ok(Task::Record {
-                image,
-                log,
-                limits,
-                crew,
-                inputs,
-            })
-        }
-        Command::Asm { text, image } => {
-            let program = load_text(alloc, store, &text)?;
-            Ok(Task::Assemble { program, image })
-        }
-        Command::List { image } => {
-            let image = load_image(alloc, store, &image)?;
-            Ok(Task::List { image })
-        }
-        Command::Show { log } => {
-            let log = load_log(alloc, store, &log)?;
-            Ok(Task::Show { log })
-        }
-        Command::Upgrade { old, log } => {
-            let old = load_old(alloc, store, &old)?;
-            Ok(Task::Upgrade {
-                log: old,
-                name: log,
-            })
-        }
-        Command::Check { log, schedule } => {
-            let log = load_log(alloc, store, &log)?;
-            let order = load_order(alloc, store, &schedule)?;
-            Ok(Task::Check { log, order })
-        }
-        Command::Solve {
-            log,
-            schedule,
-            budget,
-        } => {
-            let log = load_log(alloc, store, &log)?;
-            Ok(Task::Solve {
-                log,
-                schedule,
-                budget,
-            })
-        }
-        Command::Replay {
-            image,
-            log,
-            schedule,
-            budget,
-        } => {
-            let image = load_image(alloc, store, &image)?;
-            let log = load_log(alloc, store, &log)?;
-            let log = of_program(&image, log)?;
-            Ok(Task::Replay {
-                image,
-                log,
-                schedule,
-                budget,
-            })
-        }
-        Command::Arena { number } => Ok(Task::Arena { number }),
     }
 }

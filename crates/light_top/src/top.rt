@@ -9,7 +9,7 @@ ghost use Rattle.light_top.specs.Headline.{Records, Replays};
 
 use crate::Status;
 use crate::delivery::deliver;
-use crate::loading::take_up;
+use crate::taking::take_up;
 use crate::task::perform;
 use crate::words::{Command, read_command};
 use history::history_log_law;

@@ -1,0 +1,264 @@
+// The task of a command, once all that it names is loaded and read.
+ghost use Rattle.std.specs.Prelude.{◌≡◌, OnOk, IfOk, IfErr};
+ghost use Rattle.light_top.specs.Tasks.{IsMatched};
+ghost use Rattle.light_top.specs.Given.{given, Gives, NotGiven};
+ghost use Rattle.light_top.specs.declared.words.Command.TheVariants as command;
+
+use crate::Status;
+use crate::crew::Crew;
+use crate::loading::{
+    load_image, load_inputs, load_log, load_old, load_order, load_text, of_program,
+};
+use crate::task::Task;
+use crate::words::{Command, Name};
+use light_base::Store;
+use machine::Limits;
+use std::alloc::Global;
+
+// To play an image.
+fn take_run<'a, S: Store>(
+    alloc: Global,
+    store: &mut S,
+    image: Name<'a>,
+    limits: Limits,
+    inputs: Option<Name<'a>>,
+) -> Result<Task<'a>, Status>
+    ensures ok { IfOk result (Gives (S.files store.old) (given (command.Run image.entry limits inputs.entry))) }
+    ensures matched { IfOk result IsMatched }
+    ensures err { IfErr result (NotGiven (S.files store.old) (S.sound store.old) (S.faults store.old) (S.faults store.new) (given (command.Run image.entry limits inputs.entry))) }
+
+    ensures files { S.files store.new ≡ S.files store.old }
+    ensures sound { S.sound store.new ≡ S.sound store.old }
+    ensures quiet { OnOk result (S.faults store.new ≡ S.faults store.old) }
+{
+    let image = load_image(alloc, store, &image)?;
+    let threads = image.program().threads_count();
+    let inputs = load_inputs(alloc, store, &inputs, threads)?;
+    Ok(Task::Play {
+        image,
+        limits,
+        inputs,
+    })
+}
+
+// To record an image.
+fn take_record<'a, S: Store>(
+    alloc: Global,
+    store: &mut S,
+    image: Name<'a>,
+    log: Name<'a>,
+    limits: Limits,
+    crew: Option<Crew>,
+    inputs: Option<Name<'a>>,
+) -> Result<Task<'a>, Status>
+    ensures ok { IfOk result (Gives (S.files store.old) (given (command.Record image.entry log.entry limits crew inputs.entry))) }
+    ensures matched { IfOk result IsMatched }
+    ensures err { IfErr result (NotGiven (S.files store.old) (S.sound store.old) (S.faults store.old) (S.faults store.new) (given (command.Record image.entry log.entry limits crew inputs.entry))) }
+
+    ensures files { S.files store.new ≡ S.files store.old }
+    ensures sound { S.sound store.new ≡ S.sound store.old }
+    ensures quiet { OnOk result (S.faults store.new ≡ S.faults store.old) }
+{
+    let image = load_image(alloc, store, &image)?;
+    let threads = image.program().threads_count();
+    let inputs = load_inputs(alloc, store, &inputs, threads)?;
+    Ok(Task::Record {
+        image,
+        log,
+        limits,
+        crew,
+        inputs,
+    })
+}
+
+// To assemble a text.
+fn take_asm<'a, S: Store>(
+    alloc: Global,
+    store: &mut S,
+    text: Name<'a>,
+    image: Name<'a>,
+) -> Result<Task<'a>, Status>
+    ensures ok { IfOk result (Gives (S.files store.old) (given (command.Asm text.entry image.entry))) }
+    ensures matched { IfOk result IsMatched }
+    ensures err { IfErr result (NotGiven (S.files store.old) (S.sound store.old) (S.faults store.old) (S.faults store.new) (given (command.Asm text.entry image.entry))) }
+
+    ensures files { S.files store.new ≡ S.files store.old }
+    ensures sound { S.sound store.new ≡ S.sound store.old }
+    ensures quiet { OnOk result (S.faults store.new ≡ S.faults store.old) }
+{
+    let program = load_text(alloc, store, &text)?;
+    Ok(Task::Assemble { program, image })
+}
+
+// To list an image.
+fn take_list<'a, S: Store>(
+    alloc: Global,
+    store: &mut S,
+    image: Name<'a>,
+) -> Result<Task<'a>, Status>
+    ensures ok { IfOk result (Gives (S.files store.old) (given (command.List image.entry))) }
+    ensures matched { IfOk result IsMatched }
+    ensures err { IfErr result (NotGiven (S.files store.old) (S.sound store.old) (S.faults store.old) (S.faults store.new) (given (command.List image.entry))) }
+
+    ensures files { S.files store.new ≡ S.files store.old }
+    ensures sound { S.sound store.new ≡ S.sound store.old }
+    ensures quiet { OnOk result (S.faults store.new ≡ S.faults store.old) }
+{
+    let image = load_image(alloc, store, &image)?;
+    Ok(Task::List { image })
+}
+
+// To show a log.
+fn take_show<'a, S: Store>(alloc: Global, store: &mut S, log: Name<'a>) -> Result<Task<'a>, Status>
+    ensures ok { IfOk result (Gives (S.files store.old) (given (command.Show log.entry))) }
+    ensures matched { IfOk result IsMatched }
+    ensures err { IfErr result (NotGiven (S.files store.old) (S.sound store.old) (S.faults store.old) (S.faults store.new) (given (command.Show log.entry))) }
+
+    ensures files { S.files store.new ≡ S.files store.old }
+    ensures sound { S.sound store.new ≡ S.sound store.old }
+    ensures quiet { OnOk result (S.faults store.new ≡ S.faults store.old) }
+{
+    let log = load_log(alloc, store, &log)?;
+    Ok(Task::Show { log })
+}
+
+// To write a log of version 1 anew.
+fn take_upgrade<'a, S: Store>(
+    alloc: Global,
+    store: &mut S,
+    old: Name<'a>,
+    log: Name<'a>,
+) -> Result<Task<'a>, Status>
+    ensures ok { IfOk result (Gives (S.files store.old) (given (command.Upgrade old.entry log.entry))) }
+    ensures matched { IfOk result IsMatched }
+    ensures err { IfErr result (NotGiven (S.files store.old) (S.sound store.old) (S.faults store.old) (S.faults store.new) (given (command.Upgrade old.entry log.entry))) }
+
+    ensures files { S.files store.new ≡ S.files store.old }
+    ensures sound { S.sound store.new ≡ S.sound store.old }
+    ensures quiet { OnOk result (S.faults store.new ≡ S.faults store.old) }
+{
+    let old = load_old(alloc, store, &old)?;
+    Ok(Task::Upgrade {
+        log: old,
+        name: log,
+    })
+}
+
+// To check an order.
+fn take_check<'a, S: Store>(
+    alloc: Global,
+    store: &mut S,
+    log: Name<'a>,
+    schedule: Name<'a>,
+) -> Result<Task<'a>, Status>
+    ensures ok { IfOk result (Gives (S.files store.old) (given (command.Check log.entry schedule.entry))) }
+    ensures matched { IfOk result IsMatched }
+    ensures err { IfErr result (NotGiven (S.files store.old) (S.sound store.old) (S.faults store.old) (S.faults store.new) (given (command.Check log.entry schedule.entry))) }
+
+    ensures files { S.files store.new ≡ S.files store.old }
+    ensures sound { S.sound store.new ≡ S.sound store.old }
+    ensures quiet { OnOk result (S.faults store.new ≡ S.faults store.old) }
+{
+    let log = load_log(alloc, store, &log)?;
+    let order = load_order(alloc, store, &schedule)?;
+    Ok(Task::Check { log, order })
+}
+
+// To find an order.
+fn take_solve<'a, S: Store>(
+    alloc: Global,
+    store: &mut S,
+    log: Name<'a>,
+    schedule: Name<'a>,
+    budget: u32,
+) -> Result<Task<'a>, Status>
+    ensures ok { IfOk result (Gives (S.files store.old) (given (command.Solve log.entry schedule.entry budget))) }
+    ensures matched { IfOk result IsMatched }
+    ensures err { IfErr result (NotGiven (S.files store.old) (S.sound store.old) (S.faults store.old) (S.faults store.new) (given (command.Solve log.entry schedule.entry budget))) }
+
+    ensures files { S.files store.new ≡ S.files store.old }
+    ensures sound { S.sound store.new ≡ S.sound store.old }
+    ensures quiet { OnOk result (S.faults store.new ≡ S.faults store.old) }
+{
+    let log = load_log(alloc, store, &log)?;
+    Ok(Task::Solve {
+        log,
+        schedule,
+        budget,
+    })
+}
+
+// To replay a log.
+fn take_replay<'a, S: Store>(
+    alloc: Global,
+    store: &mut S,
+    image: Name<'a>,
+    log: Name<'a>,
+    schedule: Name<'a>,
+    budget: u32,
+) -> Result<Task<'a>, Status>
+    ensures ok { IfOk result (Gives (S.files store.old) (given (command.Replay image.entry log.entry schedule.entry budget))) }
+    ensures matched { IfOk result IsMatched }
+    ensures err { IfErr result (NotGiven (S.files store.old) (S.sound store.old) (S.faults store.old) (S.faults store.new) (given (command.Replay image.entry log.entry schedule.entry budget))) }
+
+    ensures files { S.files store.new ≡ S.files store.old }
+    ensures sound { S.sound store.new ≡ S.sound store.old }
+    ensures quiet { OnOk result (S.faults store.new ≡ S.faults store.old) }
+{
+    let image = load_image(alloc, store, &image)?;
+    let log = load_log(alloc, store, &log)?;
+    let log = of_program(&image, log)?;
+    Ok(Task::Replay {
+        image,
+        log,
+        schedule,
+        budget,
+    })
+}
+
+/// Loads what a command names, and reads it: the task that is to be done. The files stay as they are.
+pub fn take_up<'a, S: Store>(
+    alloc: Global,
+    store: &mut S,
+    command: Command<'a>,
+) -> Result<Task<'a>, Status>
+    ensures ok { IfOk result (Gives (S.files store.old) (given command.entry)) }
+    ensures matched { IfOk result IsMatched }
+    ensures err { IfErr result (NotGiven (S.files store.old) (S.sound store.old) (S.faults store.old) (S.faults store.new) (given command.entry)) }
+
+    ensures files { S.files store.new ≡ S.files store.old }
+    ensures sound { S.sound store.new ≡ S.sound store.old }
+    ensures quiet { OnOk result (S.faults store.new ≡ S.faults store.old) }
+{
+    match command {
+        Command::Run {
+            image,
+            limits,
+            inputs,
+        } => take_run(alloc, store, image, limits, inputs),
+        Command::Record {
+            image,
+            log,
+            limits,
+            crew,
+            inputs,
+        } => take_record(alloc, store, image, log, limits, crew, inputs),
+        Command::Asm { text, image } => take_asm(alloc, store, text, image),
+        Command::List { image } => take_list(alloc, store, image),
+        Command::Show { log } => take_show(alloc, store, log),
+        Command::Upgrade { old, log } => take_upgrade(alloc, store, old, log),
+        Command::Check { log, schedule } => take_check(alloc, store, log, schedule),
+        Command::Solve {
+            log,
+            schedule,
+            budget,
+        } => take_solve(alloc, store, log, schedule, budget),
+        Command::Replay {
+            image,
+            log,
+            schedule,
+            budget,
+        } => take_replay(alloc, store, image, log, schedule, budget),
+        Command::Arena { number } => Ok(Task::Arena { number }),
+    }
+}
