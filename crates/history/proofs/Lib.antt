@@ -1,4 +1,3 @@
-pub mod Sightings
 pub mod Seats
 pub mod Playing
 pub mod Steps

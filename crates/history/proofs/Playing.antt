@@ -8,7 +8,7 @@ use Rattle.replay_model.specs.Steps.{Cell, Step, word_of, wrote, has_ended, foun
 use Rattle.replay_model.specs.Histories.{World, steps_of, play, keep_all, IsLegal}
 use Rattle.replay_model.proofs.Moves.{move_shape, set_here, set_there, opening_steps}
 use Rattle.replay_model.proofs.Plays.{play-push, play_count, play_memory, legal-push}
-use Rattle.machine.specs.Programs.{ProgramValue, LimitsValue, IsProgram}
+use Rattle.machine.specs.Programs.{ProgramValue, LimitsValue, AreLimits, IsProgram}
 use Rattle.machine.specs.Inputs.{InputsValue}
 use Rattle.machine.specs.Runs.{start_of}
 use Rattle.machine.proofs.Runs.{ends_within}
@@ -45,6 +45,7 @@ pub playing-same : (played : Played) (cells : List Cell) (seats : List Seat) (t 
     IsSeat played.program played.limits played.inputs t (thread_steps played t) new → IsPlaying played cells (slice_set seats t new)
 playing-same played cells seats t new is l here = record {
   rules = is.rules;
+  bounds = is.bounds;
   legal = is.legal;
   memory = is.memory;
   counted = length-set seats t new ∙ is.counted;
@@ -89,6 +90,7 @@ pub playing-step : (played : Played) (cells : List Cell) (seats : List Seat) (t 
     (slice_set seats t new)
 playing-step played cells seats t new is l lives here = record {
   rules = is.rules;
+  bounds = is.bounds;
   legal = legal-push (threads_in played) played.taken t (start_of played.program) is.legal lives;
   memory =
       ap (λ (m : List Cell). put m (word_of (wanted_by played t)) (record { thread = t; step = length (thread_steps played t) + 1 }) (wrote (wanted_by played t) (found_in m (wanted_by played t)))) is.memory ∙
@@ -101,25 +103,26 @@ playing-step played cells seats t new is l lives here = record {
 }
 
 -- one more thread at its start
-pub fresh-push : (count : ℕ) (seats : List Seat) (seat : Seat) → AreFresh count seats → IsFresh count seat → AreFresh (count + 1) (seats ++ seat ∷ [])
-fresh-push count seats new is here = record {
+pub fresh-push : (words limit count : ℕ) (seats : List Seat) (seat : Seat) → AreFresh words limit count seats → IsFresh words limit count seat → AreFresh words limit (count + 1) (seats ++ seat ∷ [])
+fresh-push words limit count seats new is here = record {
   counted = length_push seats new ∙ ap (λ (n : ℕ). n + 1) is.counted;
   each = λ t seat l. go t seat l (cases_lt t count);
 }
   where
-    go : (t : ℕ) (seat : Seat) → t < count + 1 → (t < count) ⊎ (count ≤ t) → IsFresh t (slice_index_or (seats ++ new ∷ []) t seat)
-    go t seat l (inl b) = subst (IsFresh t) (sym (get_or_append_left seats (new ∷ []) seat t (let c = is.counted in omega (arith, c, b)))) (is.each t seat b)
+    go : (t : ℕ) (seat : Seat) → t < count + 1 → (t < count) ⊎ (count ≤ t) → IsFresh words limit t (slice_index_or (seats ++ new ∷ []) t seat)
+    go t seat l (inl b) = subst (IsFresh words limit t) (sym (get_or_append_left seats (new ∷ []) seat t (let c = is.counted in omega (arith, c, b)))) (is.each t seat b)
     go t seat l (inr g) =
         let e : count ≡ t = omega arith in
         let at : slice_index_or (seats ++ new ∷ []) count seat ≡ new = ap (λ (n : ℕ). slice_index_or (seats ++ new ∷ []) n seat) (sym is.counted) ∙ get_or-append_seam seats new [] seat in
-        let P : ℕ → Type 0 = λ n. IsFresh n (slice_index_or (seats ++ new ∷ []) n seat) in
-        subst P e (subst (IsFresh count) (sym at) here)
+        let P : ℕ → Type 0 = λ n. IsFresh words limit n (slice_index_or (seats ++ new ∷ []) n seat) in
+        subst P e (subst (IsFresh words limit count) (sym at) here)
 
 -- the state before any step
-pub playing-new : (p : ProgramValue) (limits : LimitsValue) (inputs : InputsValue) (seats : List Seat) → IsProgram p → length inputs ≡ length p.threads → AreFresh (length p.threads) seats → IsPlaying (unplayed p limits inputs) (initial_cells p.words) seats
+pub playing-new : (p : ProgramValue) (limits : LimitsValue) (inputs : InputsValue) (seats : List Seat) → IsProgram p → AreLimits limits → length inputs ≡ length p.threads → AreFresh (length p.words) limits.entries (length p.threads) seats → IsPlaying (unplayed p limits inputs) (initial_cells p.words) seats
 unfolding play IsLegal
-playing-new p limits inputs seats rules listed fresh = record {
+playing-new p limits inputs seats rules bounds listed fresh = record {
   rules = rules;
+  bounds = bounds;
   legal = tt;
   memory = refl;
   counted = fresh.counted;

@@ -1,30 +1,30 @@
 -- A step of a plain machine, from what its calls say.
-use Rattle.std.proofs.Common.{◌≡◌, ℕ, ◌+◌, ◌<◌, false, List, [], ◌∷◌, ◌++◌, length, refl, sym, ◌∙◌, ap, subst, arith, take, drop}
+use Rattle.std.proofs.Common.{◌≡◌, ℕ, ◌+◌, ◌<◌, true, false, List, [], ◌∷◌, ◌++◌, length, refl, sym, ◌∙◌, ap, subst, arith, take, drop}
 use Rattle.std.specs.Prelude.{Option, Some, slice_index_or, slice_set}
 use Rattle.std.proofs.lemmas.List.{length-set, get_or-set_same, take_all, drop_all, append-nil}
 use Rattle.light_base.specs.Tags.{HasTag}
 use Rattle.replay_model.specs.declared.Access.{Access}
 use Rattle.replay_model.specs.declared.End.{End}
+use Rattle.replay_model.specs.declared.Entry.{Entry}
 use Rattle.replay_model.specs.declared.Want.{Want}
 use Rattle.replay_model.specs.declared.Want.TheVariants as want
-use Rattle.replay_model.specs.Steps.{Cell, Step, word_of, wrote, has_ended, found_in, put, access_of}
+use Rattle.replay_model.specs.Steps.{Cell, Step, word_of, wrote, has_ended, reads, found_in, put, access_of}
 use Rattle.replay_model.specs.Histories.{step_in}
-use Rattle.machine.specs.Programs.{AreLimits}
 use Rattle.machine.specs.Cores.{State}
 use Rattle.machine.specs.Runs.{state_after}
 use Rattle.machine.proofs.Runs.{stays_within, keeps_thread, counts_steps}
+use Rattle.dep_log.specs.DepLogs.{DepLogState}
 use Rattle.history.specs.declared.seat.Seat.{Seat}
 use Rattle.history.specs.declared.plain.Stepped.TheVariants.{Took, Ended}
 use Rattle.history.specs.Stepping.{IsStep}
 use Rattle.history.specs.Played.{Played, world_of, thread_steps, wanted_by, next_step, next_access, after_step}
 use Rattle.history.specs.Playing.{run_core, IsSeat, IsPlaying, Takes, Keeps}
-use Rattle.history.proofs.Seats.{run_core-settled, ran-wants, ran-seat, taken-seat, kept-seat}
+use Rattle.history.proofs.Seats.{run_core-settled, ran-wants, ran-seat, taken-seat, kept-seat, within_steps, read_room}
 use Rattle.history.proofs.Playing.{words_count, playing-same, playing-step, has_room}
 
 -- a thread of the machine ran up to what it wants
 pub record Ran (played : Played) (cells : List Cell) (seats : List Seat) (t : ℕ) (old new : Seat) (wanted : Want) : Type 0 where
   pub is : IsPlaying played cells seats
-  pub bounds : AreLimits played.limits
   pub there : t < length played.program.threads
   pub at : old ≡ slice_index_or seats t old
   pub ran : new ≡ record old { core = run_core played.program played.limits played.inputs old }
@@ -48,7 +48,7 @@ module _ (played : Played) (cells : List Cell) (seats : List Seat) (t : ℕ) (ol
 
   pub new-seat : IsSeat played.program played.limits played.inputs t (thread_steps played t) new
   new-seat = ran-seat played.program played.limits played.inputs t (thread_steps played t) old new old-seat (ap (λ (s : Seat). s.core) r.ran)
-      (ap (λ (s : Seat). s.core.thread) (sym r.ran) ∙ new-thread) (ap (λ (s : Seat). s.accesses.items) r.ran) (ap (λ (s : Seat). s.seen.keys) r.ran)
+      (ap (λ (s : Seat). s.core.thread) (sym r.ran) ∙ new-thread) (ap (λ (s : Seat). s.accesses.items) r.ran) (ap (λ (s : Seat). s.log) r.ran)
 
   -- the machine goes on as it was
   pub ran-playing : IsPlaying played cells (slice_set seats t new)
@@ -70,8 +70,22 @@ module _ (played : Played) (cells : List Cell) (seats : List Seat) (t : ℕ) (ol
   pub room_for : has_ended wanted ≡ false → new.core.steps < 268435455
   room_for lives =
       let a = has_room played t (ap has_ended (sym new-wanted) ∙ lives) in
-      let b = r.bounds.steps in
+      let b = r.is.bounds.steps in
       omega (arith, steps_are, a, b)
+
+  -- its log has room for the step
+  pub log_word : has_ended wanted ≡ false → word_of wanted < new.log.words
+  log_word lives =
+      let w : word_of (wanted_by played t) < length played.program.words = stays_within played.program played.limits played.inputs t (thread_steps played t) (ap has_ended (sym new-wanted) ∙ lives) in
+      let n = ap (λ (l : DepLogState). l.words) new-seat.logged in
+      let e : word_of wanted ≡ word_of (wanted_by played t) = ap word_of new-wanted in
+      omega (arith, w, n, e)
+
+  pub log_later : (k : ℕ) (d : Entry) → k < length new.log.entries → (slice_index_or new.log.entries k d).last < new.core.steps + 1
+  log_later k d l = let h = within_steps played.program played.limits (thread_steps played t) new.log new-seat.logged k d l in let n = steps_are in omega (arith, h, n)
+
+  pub log_room : reads wanted ≡ true → length new.log.entries < new.log.limit
+  log_room h = read_room played.program played.limits played.inputs t (thread_steps played t) new.log new-seat.logged (ap reads (sym new-wanted) ∙ h)
 
   -- nothing was taken
   pub kept-playing : (mid last : Seat) → mid ≡ slice_index_or (slice_set seats t new) t mid → Keeps mid last → IsPlaying played cells (slice_set (slice_set seats t new) t last)
@@ -129,11 +143,10 @@ lives_from (want.Ended e) n = absurd (n e refl)
 
 -- the facts of a run, as its calls give them
 pub ran-made : (seen played : Played) (cells : List Cell) (seats : List Seat) (place t : ℕ) (old new : Seat) (wanted : Want) → played ≡ seen → t < length seen.program.threads → place ≡ t →
-    AreLimits played.limits → IsPlaying played cells seats → old ≡ slice_index_or seats place old → (new ≡ record old { core = run_core played.program played.limits played.inputs old }) × (new.core.pending ≡ Some wanted) →
+    IsPlaying played cells seats → old ≡ slice_index_or seats place old → (new ≡ record old { core = run_core played.program played.limits played.inputs old }) × (new.core.pending ≡ Some wanted) →
     Ran played cells seats place old new wanted
-ran-made seen played cells seats place t old new wanted view l p bounds is at ran = record {
+ran-made seen played cells seats place t old new wanted view l p is at ran = record {
   is = is;
-  bounds = bounds;
   there = subst (λ (x : Played). place < length x.program.threads) (sym view) (omega (arith, l, p));
   at = at;
   ran = ran.0;

@@ -2,6 +2,7 @@
 ghost use Rattle.std.specs.Prelude.{◌≡◌, ℕ, ◌+◌, ◌<◌, ◌≤◌, Bool, true, false, not, IfOk, OnOk, OnErr, [], ◌∷◌, length, map, All};
 ghost use Rattle.std.specs.List.{range_with_len};
 ghost use Rattle.replay_model.specs.Steps.{accesses_from};
+ghost use Rattle.replay_model.specs.ThreadLogs.{thread_log};
 ghost use Rattle.replay_model.specs.Histories.{round_turns};
 ghost use Rattle.machine.specs.Runs.{reports_of, rounds_of, values_of};
 ghost use Rattle.history.specs.Played.{unplayed, world_of, thread_steps, after_turns, steps_in, HasBegun, IsOver};
@@ -12,6 +13,7 @@ use crate::cells::opening_cells;
 use crate::seat::Seat;
 use light_base::{Cell, Memory};
 use machine::{Access, End, Inputs, Limits, Program, RunReport, Want};
+use replay_model::Entry;
 use std::alloc::Global;
 use std::marker::Model;
 
@@ -52,14 +54,17 @@ impl<'p> Model for Plain<'p> {
     ghost invariant = { λ p. IsPlaying (record { program = p.program.now; limits = p.limits; inputs = p.inputs.now; taken = p.taken.items }) p.cells.items p.seats.items };
 }
 
-// The threads before any step.
-fn opening_seats(alloc: Global, count: u8) -> Result<Vec<Seat>, Memory>
-    requires { count ≤ 15 }
-    ensures { IfOk result (λ seats. AreFresh count seats.items) }
+// The threads before any step, each with so many words and at most so many entries in its log.
+fn opening_seats(alloc: Global, count: u8, words: u16, limit: u32) -> Result<Vec<Seat>, Memory>
+    requires count { count ≤ 15 }
+    requires some_word { 1 ≤ words }
+    requires words { words ≤ 4096 }
+    requires limit { limit ≤ 16384 }
+    ensures { IfOk result (λ seats. AreFresh words limit count seats.items) }
 {
     let mut seats = Vec::new(alloc);
     for thread in 0..count {
-        seats.push(Seat::new(alloc, thread))?;
+        seats.push(Seat::new(alloc, thread, words, limit)?)?;
     }
     Ok(seats)
 }
@@ -94,8 +99,10 @@ impl<'p> Plain<'p> {
         requires { length inputs.now ≡ length program.now.threads }
         ensures { IfOk result (λ plain. plain ≡ unplayed program.now limits inputs.now) }
     {
-        let cells = opening_cells(alloc, program.words())?;
-        let seats = opening_seats(alloc, program.threads_count() as u8)?;
+        let words = program.words();
+        let cells = opening_cells(alloc, words)?;
+        let count = program.threads_count() as u8;
+        let seats = opening_seats(alloc, count, words.len() as u16, limits.entries())?;
         Ok(Plain {
             program,
             limits,
@@ -197,6 +204,14 @@ impl<'p> Plain<'p> {
         ensures { result.now ≡ accesses_from 1 (thread_steps self.now thread) }
     {
         &self.seats[usize::from(thread)].accesses
+    }
+
+    /// The log of a thread so far: its entries by rising first.
+    pub fn entries(&self, thread: u8) -> &[Entry]
+        requires { thread < length self.now.program.threads }
+        ensures { result.now ≡ thread_log (thread_steps self.now thread) }
+    {
+        self.seats[usize::from(thread)].log.entries()
     }
 
     /// The words, each with its last writer.

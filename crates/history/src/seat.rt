@@ -1,45 +1,40 @@
 // What a plain machine keeps of one thread.
-ghost use Rattle.std.specs.Prelude.{◌≡◌, ◌+◌, ◌<◌, ◌≤◌, false, is_some, option_and_then, IsSome, IfOk, OnErr, OnOk, length, Some};
+ghost use Rattle.std.specs.Prelude.{◌≡◌, ◌+◌, ◌<◌, ◌≤◌, All, true, false, is_some, option_and_then, IsSome, IfOk, OnErr, length, Some};
 ghost use Rattle.replay_model.specs.Steps.{found_in, has_ended, put, reads, word_of};
-ghost use Rattle.machine.specs.Programs.{AreLimits};
 ghost use Rattle.machine.specs.Cores.{end_of, report_of};
 
 use crate::cells::{found_in, put, word_of, written};
+use dep_log::DepLog;
 use light_base::{Cell, Event, Memory};
 use machine::{Core, Inputs, Limits, Program, RunReport};
 use replay_model::{Access, Want};
 use std::alloc::Global;
-use std::collections::HashSet;
 
-/// A word, and the writer of what a step found there.
-#[derive(Clone, Copy, PartialEq, Eq, Hash)]
-pub(crate) struct Sighting {
-    word: u16,
-    writer: Option<Event>,
-}
-
-/// One thread: its core, its steps as they are told, and what they found.
+/// One thread: its core, its steps as they are told, and its log.
 #[derive(Drop)]
 pub(crate) struct Seat {
     pub(crate) core: Core,
     pub(crate) accesses: Vec<Access>,
-    seen: HashSet<Sighting>,
+    pub(crate) log: DepLog,
 }
 
 impl Seat {
-    ghost use Rattle.history.specs.Sightings.{Sees};
     ghost use Rattle.history.specs.Playing.{run_core, IsFresh, Takes, Keeps};
 
-    // A thread at its start.
-    pub(crate) fn new(alloc: Global, thread: u8) -> Seat
-        requires { thread ≤ 14 }
-        ensures { IsFresh thread result }
+    // A thread at its start, with so many words and at most so many entries in its log.
+    pub(crate) fn new(alloc: Global, thread: u8, words: u16, limit: u32) -> Result<Seat, Memory>
+        requires thread { thread ≤ 14 }
+        requires some_word { 1 ≤ words }
+        requires words { words ≤ 4096 }
+        requires limit { limit ≤ 16384 }
+        ensures { IfOk result (IsFresh words limit thread) }
     {
-        Seat {
+        let log = DepLog::new(alloc, words, limit)?;
+        Ok(Seat {
             core: Core::new(alloc, thread),
             accesses: Vec::new(alloc),
-            seen: HashSet::new(alloc),
-        }
+            log,
+        })
     }
 
     // Runs the thread up to its next memory step or its end.
@@ -53,27 +48,10 @@ impl Seat {
         requires listed { length inputs.now ≡ length program.now.threads }
         ensures ok { IfOk result (λ wanted. (self.new ≡ record self.old { core = run_core program.now limits.now inputs.now self.old }) × (self.new.core.pending ≡ Some wanted)) }
         ensures err { OnErr result (self.new ≡ self.old) }
-        ensures rules { AreLimits limits.now }
     {
-        let full = self.seen.len() >= limits.entries() as usize;
+        let full = self.log.is_full();
         let list = inputs.threads(usize::from(self.core.thread()));
         self.core.go_with(program, limits, list, full)
-    }
-
-    // Adds what a step found to the pairs that were seen.
-    fn see(&mut self, word: u16, found: &Option<Cell>) -> Result<(), Memory>
-        ensures core { self.new.core ≡ self.old.core }
-        ensures accesses { self.new.accesses ≡ self.old.accesses }
-        ensures ok { OnOk result (Sees word found.now self.old.seen.keys self.new.seen.keys) }
-        ensures err { OnErr result (self.new.seen.keys ≡ self.old.seen.keys) }
-    {
-        if let Some(cell) = found {
-            self.seen.insert(Sighting {
-                word,
-                writer: cell.tag.writer(),
-            })?;
-        }
-        Ok(())
     }
 
     // Takes the pending step, which found this.
@@ -82,6 +60,9 @@ impl Seat {
         requires lives { has_ended want.now ≡ false }
         requires found { is_some found ≡ reads want.now }
         requires room { self.old.core.steps < 268435455 }
+        requires word { word_of want.now < self.old.log.words }
+        requires later { All (λ entry. entry.last < self.old.core.steps + 1) self.old.log.entries }
+        requires entry { reads want.now ≡ true → length self.old.log.entries < self.old.log.limit }
         ensures ok { IfOk result (λ access. Takes want.now found self.old access self.new) }
         ensures err { OnErr result (Keeps self.old self.new) }
     {
@@ -89,10 +70,12 @@ impl Seat {
         let word = word_of(want);
         let wrote = written(want, &found);
         self.accesses.reserve(1)?;
-        self.see(word, &found)?;
         let saw = found;
         match found {
-            Some(cell) => self.core.found(cell),
+            Some(cell) => {
+                self.log.saw(word, cell.tag, step);
+                self.core.found(cell);
+            }
             None => self.core.stored(),
         }
         let access = Access {
@@ -118,6 +101,9 @@ impl Seat {
         requires word { word_of want.now < length cells.old }
         requires thread { thread ≤ 14 }
         requires room { self.old.core.steps < 268435455 }
+        requires log_word { word_of want.now < self.old.log.words }
+        requires later { All (λ entry. entry.last < self.old.core.steps + 1) self.old.log.entries }
+        requires entry { reads want.now ≡ true → length self.old.log.entries < self.old.log.limit }
         ensures ok { IfOk result (λ access. Takes want.now (found_in cells.old want.now) self.old access self.new) }
         ensures cells { IfOk result (λ access. cells.new ≡ put cells.old (word_of want.now) (record { thread = thread; step = access.step }) access.wrote) }
         ensures err { OnErr result (Keeps self.old self.new) }
@@ -148,9 +134,9 @@ impl Seat {
         let Seat {
             mut core,
             accesses: _,
-            seen,
+            log,
         } = self;
-        let full = seen.len() >= limits.entries() as usize;
+        let full = log.is_full();
         let list = inputs.threads(usize::from(core.thread()));
         core.go_with(program, limits, list, full)?;
         Ok(core.report())

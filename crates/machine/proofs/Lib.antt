@@ -4,7 +4,10 @@ pub mod Took
 pub mod Runs
 pub mod Turning
 pub mod Keeps
+pub mod Computing
+pub mod Outs
 pub mod Going
+pub mod Walking
 pub mod Faults
 pub mod Rules
 pub mod ImageHead

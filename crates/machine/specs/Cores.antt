@@ -61,6 +61,17 @@ is_memory op.Xchg = true
 is_memory op.Cas = true
 is_memory _ = false
 
+-- those that only compute, or jump
+abbrev pub computes : Op → Bool
+computes op.Halt = false
+computes op.Out = false
+computes op.Load = false
+computes op.Store = false
+computes op.Xchg = false
+computes op.Cas = false
+computes op.Input = false
+computes _ = true
+
 -- those whose first memory step reads
 abbrev pub is_reading : Op → Bool
 is_reading op.Load = true

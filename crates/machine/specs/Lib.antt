@@ -1,4 +1,5 @@
 pub mod Programs
+pub mod Outs
 pub mod Inputs
 pub mod Faults
 pub mod Images

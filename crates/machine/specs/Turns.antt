@@ -1,11 +1,11 @@
 -- What one instruction does, apart from what it leaves alone.
-use Rattle.std.specs.Prelude.{◌≡◌, ℕ, ◌+◌, ◌<◌, Bool, Some, None, List}
+use Rattle.std.specs.Prelude.{◌≡◌, ℕ, ◌+◌, ◌<◌, ◌≤◌, Bool, Some, None, List, length}
 use Rattle.machine.specs.declared.program.Instr.{Instr}
 use Rattle.machine.specs.declared.cores.Course.{Course}
 use Rattle.machine.specs.declared.cores.Rest.{Rest}
 use Rattle.machine.specs.declared.cores.Turn.{Turn}
 use Rattle.machine.specs.declared.cores.Turn.TheVariants as turn
-use Rattle.machine.specs.Programs.{LimitsValue}
+use Rattle.machine.specs.Programs.{ProgramValue, LimitsValue, AreLimits, IsCode, code_of}
 use Rattle.machine.specs.Cores.{State, comes_to, ran}
 
 -- the limits that bound a course; how many entries a log may have is settled before it
@@ -32,3 +32,16 @@ Turns words limits inputs full i old (turn.Stop wanted) registers output taken =
     (comes_to words limits inputs full old (Some i) ≡ Some wanted) × (registers ≡ old.registers) × (output ≡ old.output) × (taken ≡ old.taken)
 Turns words limits inputs full i old (turn.Next place) registers output taken =
     (comes_to words limits inputs full old (Some i) ≡ None) × (ran inputs i.op old i ≡ record old { registers = registers; place = place; output = output; instr = old.instr + 1; taken = taken })
+
+-- the course of a thread of a program
+pub record IsCourse (p : ProgramValue) (limits : LimitsValue) (list : List ℕ) (ends : Bool) (s : State) (c : Course) : Type 0 where
+  pub code : c.code.now ≡ code_of p s.thread
+  pub inputs : c.inputs.now ≡ list
+  pub words : c.words ≡ length p.words
+  pub steps : c.steps ≡ s.steps
+  pub full : c.full ≡ ends
+  pub most_steps : c.most_steps ≡ limits.steps
+  pub most_instr : c.most_instr ≡ limits.instr
+  pub rules : IsCode c.code.now
+  pub bounds : AreLimits (bounds_of c)
+  pub few : c.words ≤ 4096

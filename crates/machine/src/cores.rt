@@ -1,9 +1,10 @@
 // One thread of a program: its registers and its place, and what it wants of the memory next.
-ghost use Rattle.std.specs.Prelude.{◌≡◌, ℕ, ◌+◌, ◌<◌, ◌≤◌, true, false, if◌then◌else◌, Some, None, List, [], length, take, IfOk, OnErr, IsSome, IsSomeAnd, option_and_then};
+ghost use Rattle.std.specs.Prelude.{◌≡◌, ℕ, ◌+◌, ◌<◌, ◌≤◌, true, false, if◌then◌else◌, slice_get, Some, None, List, [], length, take, IfOk, IfSome, OnOk, OnErr, IsSome, is_some, IsSomeAnd, option_and_then};
 ghost use Rattle.replay_model.specs.Steps.{reads, has_ended};
-ghost use Rattle.machine.specs.Programs.{IsCode, code_of};
-ghost use Rattle.machine.specs.Cores.{State, first_state, is_memory, comes_to, run_on, second_wanted, settled, with_register, told, compared, exchanged, cas_found, pending_want, step_done, took, end_of, report_of, is_store};
-ghost use Rattle.machine.specs.Turns.{bounds_of, moved, rested, NamesRegisters, Turns};
+ghost use Rattle.machine.specs.Programs.{AreLimits, IsCode, code_of};
+ghost use Rattle.machine.specs.Cores.{State, first_state, is_memory, comes_to, ran, run_on, second_wanted, computes, IsState, settled, with_register, told, compared, exchanged, cas_found, pending_want, step_done, took, end_of, report_of, is_store};
+ghost use Rattle.machine.specs.Outs.{puts_out};
+ghost use Rattle.machine.specs.Turns.{bounds_of, moved, rested, IsCourse, NamesRegisters, Turns};
 
 use crate::program::{Instr, Limits, Op, Program};
 use light_base::{Cell, Memory, Tag};
@@ -82,6 +83,14 @@ enum Turn {
     Stop(Want),
 }
 
+/// A place in a code, how many instructions were finished before it, and the instruction there if it takes a memory step.
+#[derive(Clone, Copy)]
+struct Way<'a> {
+    place: usize,
+    instr: u32,
+    memory: Option<&'a Instr>,
+}
+
 /// Where a thread stopped, and what it wants there.
 #[derive(Clone, Copy)]
 struct Rest {
@@ -94,9 +103,9 @@ struct Rest {
 
 /// What a thread runs between two memory steps, and what bounds it.
 #[derive(Clone, Copy)]
-struct Course<'a> {
+struct Course<'a, 'b> {
     code: &'a [Instr],
-    inputs: &'a [u32],
+    inputs: &'b [u32],
     words: usize,
     most_steps: u32,
     most_instr: u32,
@@ -105,34 +114,118 @@ struct Course<'a> {
 }
 
 // Where a jump leads: to its target where it is taken, and else to the next place.
-fn jump(taken: bool, target: u32, place: usize) -> Turn
+fn jump(taken: bool, target: u32, place: usize) -> usize
     requires { place < 4096 }
-    ensures { result ≡ Turn.Next (if taken then target else place + 1) }
+    ensures { result ≡ (if taken then target else place + 1) }
 {
-    Turn::Next(if taken { target as usize } else { place + 1 })
+    if taken { target as usize } else { place + 1 }
 }
 
-impl Course<'_> {
-    // The memory step of this instruction, or the end that comes before it.
-    fn memory_step(&self, registers: &[u32; 16], i: &Instr) -> Want
+// What is wanted is pending, and is handed on. Each place that knows what is wanted calls this, so that what it is need not
+// be told apart again.
+#[inline(always)]
+fn put_down(pending: &mut Option<Want>, wanted: Want) -> Want
+    ensures pending { pending.new ≡ Some wanted }
+    ensures same { result ≡ wanted }
+{
+    let told = wanted;
+    *pending = Some(wanted);
+    told
+}
+
+// The place after an instruction that only computes or jumps. None where it does something else, and nothing is changed.
+#[inline(always)]
+fn compute(registers: &mut [u32; 16], place: usize, i: &Instr) -> Option<usize>
+    requires place { place < 4096 }
+    requires fields { NamesRegisters i.now }
+    ensures some { IfSome result (λ next. (s : State) (inputs output : List ℕ) (steps instr taken : ℕ) → ran inputs i.now.op (moved s registers.old place output steps instr taken) i.now ≡ moved s registers.new next output steps (instr + 1) taken) }
+    ensures none { result ≡ None → registers.new ≡ registers.old }
+    ensures local { is_some result ≡ computes i.now.op }
+{
+    let (a, b, c) = (usize::from(i.a), usize::from(i.b), usize::from(i.c));
+    let imm = i.imm;
+    match i.op {
+        Op::Const => registers[a] = imm,
+        Op::Mov => registers[a] = registers[b],
+        Op::Add => registers[a] = registers[b].wrapping_add(registers[c]),
+        Op::Sub => registers[a] = registers[b].wrapping_sub(registers[c]),
+        Op::Mul => registers[a] = registers[b].wrapping_mul(registers[c]),
+        Op::And => registers[a] = registers[b] & registers[c],
+        Op::Or => registers[a] = registers[b] | registers[c],
+        Op::Xor => registers[a] = registers[b] ^ registers[c],
+        Op::Shl => registers[a] = registers[b].wrapping_shl(registers[c]),
+        Op::Shr => registers[a] = registers[b].wrapping_shr(registers[c]),
+        Op::Addi => registers[a] = registers[b].wrapping_add(imm),
+        Op::Jmp => return Some(jump(true, imm, place)),
+        Op::Jeq => return Some(jump(registers[a] == registers[b], imm, place)),
+        Op::Jne => return Some(jump(registers[a] != registers[b], imm, place)),
+        Op::Jlt => return Some(jump(registers[a] < registers[b], imm, place)),
+        Op::Halt | Op::Out | Op::Load | Op::Store | Op::Xchg | Op::Cas | Op::Input => {
+            return None;
+        }
+    }
+    Some(place + 1)
+}
+
+impl<'a> Course<'a, '_> {
+    // Runs instructions that only compute or jump, as long as they come and the limit leaves some.
+    #[inline(always)]
+    fn go_along(&self, registers: &mut [u32; 16], mut place: usize, mut instr: u32) -> Way<'a>
+        requires code { IsCode self.now.code.now }
+        requires bounds { AreLimits (bounds_of self.now) }
+        requires state { IsState (moved (first_state 0) registers.old place [] 0 instr 0) }
+        ensures same { (s : State) (output : List ℕ) (taken : ℕ) → run_on self.now.code.now self.now.words (bounds_of self.now) self.now.inputs.now self.now.full (moved s registers.old place output self.now.steps instr taken) ≡ run_on self.now.code.now self.now.words (bounds_of self.now) self.now.inputs.now self.now.full (moved s registers.new result.place output self.now.steps result.instr taken) }
+        ensures state { IsState (moved (first_state 0) registers.new result.place [] 0 result.instr 0) }
+        ensures memory { IfSome result.memory (λ i. (slice_get self.now.code.now result.place ≡ Some i.now) × (is_memory i.now.op ≡ true) × (result.instr < self.now.most_instr)) }
+    {
+        while instr < self.most_instr && place < self.code.len() {
+            let i = &self.code[place];
+            if i.op.is_memory() {
+                return Way {
+                    place,
+                    instr,
+                    memory: Some(i),
+                };
+            }
+            let Some(next) = compute(registers, place, i) else {
+                return Way {
+                    place,
+                    instr,
+                    memory: None,
+                };
+            };
+            place = next;
+            instr += 1;
+        }
+        Way {
+            place,
+            instr,
+            memory: None,
+        }
+    }
+
+    // The memory step of this instruction, or the end that comes before it; it is pending too.
+    #[inline(always)]
+    fn memory_step(&self, registers: &[u32; 16], i: &Instr, pending: &mut Option<Want>) -> Want
         requires words { self.now.words ≤ 4096 }
         requires fields { NamesRegisters i.now }
         requires memory { is_memory i.now.op ≡ true }
-        ensures { (s : State) (place instr taken : ℕ) (output : List ℕ) → instr < self.now.most_instr → comes_to self.now.words (bounds_of self.now) self.now.inputs.now self.now.full (moved s registers.now place output self.now.steps instr taken) (Some i.now) ≡ Some result }
+        ensures value { (s : State) (place instr taken : ℕ) (output : List ℕ) → instr < self.now.most_instr → comes_to self.now.words (bounds_of self.now) self.now.inputs.now self.now.full (moved s registers.now place output self.now.steps instr taken) (Some i.now) ≡ Some result }
+        ensures pending { pending.new ≡ Some result }
     {
         let address = registers[usize::from(i.b)].wrapping_add(i.imm);
         if address as usize >= self.words {
-            return Want::Ended(End::BadAddress(address));
+            return put_down(pending, Want::Ended(End::BadAddress(address)));
         }
         if self.steps >= self.most_steps {
-            return Want::Ended(End::StepsSpent);
+            return put_down(pending, Want::Ended(End::StepsSpent));
         }
         let word = address as u16;
         match i.op {
-            Op::Store => Want::Store(word, registers[usize::from(i.a)]),
-            _ if self.full => Want::Ended(End::EntriesFull),
-            Op::Xchg => Want::Swap(word, registers[usize::from(i.a)]),
-            _ => Want::Load(word),
+            Op::Store => put_down(pending, Want::Store(word, registers[usize::from(i.a)])),
+            _ if self.full => put_down(pending, Want::Ended(End::EntriesFull)),
+            Op::Xchg => put_down(pending, Want::Swap(word, registers[usize::from(i.a)])),
+            _ => put_down(pending, Want::Load(word)),
         }
     }
 
@@ -155,33 +248,16 @@ impl Course<'_> {
         ensures puts { OnErr result (i.now.op ≡ Op.Out) }
         ensures kept { take (length output.old.items) output.new.items ≡ output.old.items }
     {
-        let (a, b, c) = (usize::from(i.a), usize::from(i.b), usize::from(i.c));
-        let imm = i.imm;
         match i.op {
             Op::Halt => return Ok(Turn::Stop(Want::Ended(End::Halted))),
             _ if instr >= self.most_instr => {
                 return Ok(Turn::Stop(Want::Ended(End::InstrSpent)));
             }
-            Op::Const => registers[a] = imm,
-            Op::Mov => registers[a] = registers[b],
-            Op::Add => registers[a] = registers[b].wrapping_add(registers[c]),
-            Op::Sub => registers[a] = registers[b].wrapping_sub(registers[c]),
-            Op::Mul => registers[a] = registers[b].wrapping_mul(registers[c]),
-            Op::And => registers[a] = registers[b] & registers[c],
-            Op::Or => registers[a] = registers[b] | registers[c],
-            Op::Xor => registers[a] = registers[b] ^ registers[c],
-            Op::Shl => registers[a] = registers[b].wrapping_shl(registers[c]),
-            Op::Shr => registers[a] = registers[b].wrapping_shr(registers[c]),
-            Op::Addi => registers[a] = registers[b].wrapping_add(imm),
-            Op::Jmp => return Ok(jump(true, imm, place)),
-            Op::Jeq => return Ok(jump(registers[a] == registers[b], imm, place)),
-            Op::Jne => return Ok(jump(registers[a] != registers[b], imm, place)),
-            Op::Jlt => return Ok(jump(registers[a] < registers[b], imm, place)),
             Op::Out => {
                 if output.len() >= MOST_OUTPUTS {
                     return Ok(Turn::Stop(Want::Ended(End::OutputFull)));
                 }
-                if output.push(registers[a]).is_err() {
+                if output.push(registers[usize::from(i.a)]).is_err() {
                     return Err(Memory);
                 }
             }
@@ -190,12 +266,17 @@ impl Course<'_> {
                 if at >= self.inputs.len() {
                     return Ok(Turn::Stop(Want::Ended(End::InputEmpty)));
                 }
-                registers[a] = self.inputs[at];
+                registers[usize::from(i.a)] = self.inputs[at];
                 *taken += 1;
             }
             Op::Load | Op::Store | Op::Xchg | Op::Cas => {
-                return Ok(Turn::Stop(self.memory_step(registers, i)));
+                let mut pending = None;
+                return Ok(Turn::Stop(self.memory_step(registers, i, &mut pending)));
             }
+            _ => match compute(registers, place, i) {
+                Some(next) => return Ok(Turn::Next(next)),
+                None => unreachable!(),
+            },
         }
         Ok(Turn::Next(place + 1))
     }
@@ -328,7 +409,32 @@ impl Core {
         Want::Cond(expected.word, expected.tag, value)
     }
 
-    // Runs local instructions up to the next memory step or the end.
+    // What the thread runs, and what bounds it.
+    #[inline(always)]
+    fn course<'a, 'b>(
+        &self,
+        program: &'a Program,
+        limits: &Limits,
+        inputs: &'b [u32],
+        full: bool,
+    ) -> Course<'a, 'b>
+        requires thread { self.now.thread < length program.now.threads }
+        requires inputs { length inputs.now ≤ 65536 }
+        ensures { IsCourse program.now limits.now inputs.now full self.now result }
+    {
+        Course {
+            code: program.threads(usize::from(self.thread)),
+            inputs,
+            words: program.words().len(),
+            most_steps: limits.steps(),
+            most_instr: limits.instr(),
+            full,
+            steps: self.steps,
+        }
+    }
+
+    // Runs local instructions up to the next memory step or the end. Where the code puts out nothing, they are run
+    // without a copy of the registers, which a refused output alone needs.
     fn run(
         &mut self,
         program: &Program,
@@ -344,15 +450,70 @@ impl Core {
         ensures err { OnErr result (self.new ≡ self.old) }
         ensures memory { OnErr result (length self.old.output < length (run_on (code_of program.now self.old.thread) (length program.now.words) limits.now inputs.now full self.old).output) }
     {
-        let course = Course {
-            code: program.threads(usize::from(self.thread)),
-            inputs,
-            words: program.words().len(),
-            most_steps: limits.steps(),
-            most_instr: limits.instr(),
-            full,
-            steps: self.steps,
+        if program.puts_out(usize::from(self.thread)) {
+            self.run_on(program, limits, inputs, full)?;
+            return Ok(self.wanted());
+        }
+        let course = self.course(program, limits, inputs, full);
+        let way = course.go_along(&mut self.registers, self.place, self.instr);
+        self.place = way.place;
+        self.instr = way.instr;
+        let Some(i) = way.memory else {
+            self.run_on_quietly(program, limits, inputs, full);
+            return Ok(self.wanted());
         };
+        let course = self.course(program, limits, inputs, full);
+        self.doing = *i;
+        Ok(course.memory_step(&self.registers, i, &mut self.pending))
+    }
+
+    // What is pending.
+    #[inline(always)]
+    fn wanted(&self) -> Want
+        requires { IsSome self.now.pending }
+        ensures { self.now.pending ≡ Some result }
+    {
+        match self.pending {
+            Some(wanted) => wanted,
+            None => unreachable!(),
+        }
+    }
+
+    // The same in steps, where the code puts out nothing.
+    #[cold]
+    fn run_on_quietly(&mut self, program: &Program, limits: &Limits, inputs: &[u32], full: bool)
+        requires thread { self.old.thread < length program.now.threads }
+        requires inputs { length inputs.now ≤ 65536 }
+        requires fresh { self.old.expected ≡ None }
+        requires none { self.old.pending ≡ None }
+        requires quiet { puts_out (code_of program.now self.old.thread) ≡ false }
+        ensures state { self.new ≡ run_on (code_of program.now self.old.thread) (length program.now.words) limits.now inputs.now full self.old }
+        ensures wanted { IsSome self.new.pending }
+    {
+        match self.run_on(program, limits, inputs, full) {
+            Ok(()) => {}
+            Err(Memory) => unreachable!(),
+        }
+    }
+
+    // Runs local instructions one by one up to the next memory step or the end.
+    #[inline(never)]
+    fn run_on(
+        &mut self,
+        program: &Program,
+        limits: &Limits,
+        inputs: &[u32],
+        full: bool,
+    ) -> Result<(), Memory>
+        requires thread { self.old.thread < length program.now.threads }
+        requires inputs { length inputs.now ≤ 65536 }
+        requires fresh { self.old.expected ≡ None }
+        requires none { self.old.pending ≡ None }
+        ensures ok { OnOk result ((self.new ≡ run_on (code_of program.now self.old.thread) (length program.now.words) limits.now inputs.now full self.old) × IsSome self.new.pending) }
+        ensures err { OnErr result (self.new ≡ self.old) }
+        ensures memory { OnErr result (length self.old.output < length (run_on (code_of program.now self.old.thread) (length program.now.words) limits.now inputs.now full self.old).output) }
+    {
+        let course = self.course(program, limits, inputs, full);
         let registers = self.registers;
         let outputs = self.output.len();
         match course.run(
@@ -368,7 +529,7 @@ impl Core {
                 self.taken = rest.taken;
                 self.doing = rest.doing;
                 self.pending = Some(rest.wanted);
-                Ok(rest.wanted)
+                Ok(())
             }
             Err(Memory) => {
                 self.registers = registers;

@@ -5,7 +5,7 @@ ghost use Rattle.replay_model.specs.ThreadLogs.{thread_log};
 ghost use Rattle.history.specs.Played.{thread_steps};
 ghost use Rattle.recorder.specs.ThreadLogs.{entry_lists, entries_by};
 
-use dep_log::{Entry, entries_of};
+use dep_log::Entry;
 use history::Plain;
 use light_base::Memory;
 use std::alloc::Global;
@@ -21,7 +21,7 @@ pub(crate) fn all_entries(
 {
     let mut all = Vec::with_capacity(alloc, usize::from(threads))?;
     for thread in 0..threads {
-        all.push(entries_of(alloc, plain.accesses(thread))?)?;
+        all.push(Vec::from_slice(alloc, plain.entries(thread))?)?;
     }
     Ok(all)
 }

@@ -6,5 +6,5 @@ use Rattle.history.proofs.plain.opening_seats.Goals as goal
 
 pub loop-thread-preserved : goal.loop-thread-preserved
 loop-thread-preserved c =
-    let P : List Seat → Type 0 = λ l. AreFresh (c.loop-thread.thread + 1) l in
-    subst P (sym c.in_ok-push.ensures.items) (fresh-push c.loop-thread.thread c.loop-thread.seats.items c.new.result c.loop-thread.invariant c.new.ensures)
+    let P : List Seat → Type 0 = λ l. AreFresh c.args.words c.args.limit (c.loop-thread.thread + 1) l in
+    subst P (sym c.in_ok-push.ensures.items) (fresh-push c.args.words c.args.limit c.loop-thread.thread c.loop-thread.seats.items c.in_ok-new.field-0 c.loop-thread.invariant c.in_ok-new.ensures)

@@ -1,4 +1,4 @@
-use Rattle.std.proofs.Common.{◌≡◌, ℕ, List, [], ◌∷◌, ◌++◌, sym, ap, subst, arith, ◌∙◌}
+use Rattle.std.proofs.Common.{◌≡◌, ℕ, List, [], ◌∷◌, ◌++◌, sym, ap, arith, ◌∙◌}
 use Rattle.std.proofs.lemmas.List.{map-append}
 use Rattle.std.proofs.lemmas.List.FromFn.{map-range_with_len_more}
 use Rattle.std.specs.List.{range_with_len}
@@ -6,20 +6,15 @@ use Rattle.std.specs.Global.{Vec}
 use Rattle.replay_model.specs.declared.Entry.{Entry}
 use Rattle.replay_model.specs.ThreadLogs.{thread_log}
 use Rattle.history.specs.Played.{thread_steps}
-use Rattle.dep_log.specs.AccessLogs.{RiseAbove}
-use Rattle.dep_log.proofs.AccessLogs.{RiseAbove-accesses_from}
 use Rattle.recorder.specs.ThreadLogs.{entry_lists, entries_by}
 use Rattle.recorder.proofs.entries.all_entries.Goals as goal
-
-pub entries_of-requires : goal.entries_of-requires
-entries_of-requires c = subst (RiseAbove 0) (sym c.accesses.ensures) (RiseAbove-accesses_from 0 (thread_steps c.args.plain.now c.loop-thread.thread))
 
 pub loop-thread-preserved : goal.loop-thread-preserved
 loop-thread-preserved c =
     let t : ℕ = c.loop-thread.thread in
-    let entries = c.in_ok-entries_of.field-0 in
+    let entries = c.in_ok-from_slice.field-0 in
     let of_thread = λ (t : ℕ). thread_log (thread_steps c.args.plain.now t) in
-    let new : entries.items ≡ of_thread t = c.in_ok-entries_of.ensures.thread (thread_steps c.args.plain.now t) c.accesses.ensures in
+    let new : entries.items ≡ of_thread t = c.in_ok-from_slice.ensures.items ∙ c.entries.ensures in
     ap entry_lists c.in_ok-push.ensures.items ∙ map-append (λ (entries : Vec Entry). entries.items) c.loop-thread.all.items (entries ∷ []) ∙
     ap (λ (all : List (List Entry)). all ++ entries.items ∷ []) c.loop-thread.invariant ∙
     ap (λ (items : List Entry). entries_by c.args.plain.now (range_with_len 0 t) ++ items ∷ []) new ∙ sym (map-range_with_len_more of_thread 0 t t (omega arith))

@@ -1,36 +1,67 @@
-use Rattle.std.proofs.Common.{length, refl, sym, ◌∙◌, ap, subst, arith}
-use Rattle.machine.specs.Cores.{State, IsState}
+use Rattle.std.proofs.Common.{Option, List, ℕ, ◌≡◌, ◌<◌, ◌≤◌, true, Some, Bor, slice_get, length, sym, ◌∙◌, ap, subst, arith}
+use Rattle.replay_model.specs.declared.Want.{Want}
+use Rattle.machine.specs.declared.program.Instr.{Instr}
+use Rattle.machine.specs.Cores.{State, IsState, is_memory}
+use Rattle.machine.specs.Turns.{bounds_of, IsCourse}
 use Rattle.machine.specs.contracts.cores.Core.{the_view}
-use Rattle.machine.proofs.Going.{code_rules, limits_rules, run_on-of}
-use Rattle.machine.proofs.Keeps.{run_on-is_state}
+use Rattle.machine.proofs.Keeps.{instr_at, names_registers, run_on-is_state}
+use Rattle.machine.proofs.Walking.{holds_there, walks_to, walked, stops, stopped, same_code}
 use Rattle.machine.proofs.cores.Core.run.Goals as goal
 
-pub invariant_of-self : goal.invariant_of-self
-invariant_of-self c =
+pub returns-in_default-clause-ok : goal.returns-in_default-clause-ok
+returns-in_default-clause-ok c =
     let s = the_view c.self.inside in
-    let program = c.args.program.now in
-    let thread = ap (λ (n : State). n.thread) c.self.view_is in
-    let rules = code_rules program c.from.result c.threads.result.now c.threads.ensures.rules (omega (arith, thread, c.from.ensures)) c.threads.ensures.value in
-    let limits = limits_rules c.args.limits.now c.steps.result c.instr.result c.steps.ensures.rules c.steps.ensures.value c.instr.ensures.value in
-    let none = ap (λ (n : State). n.pending) c.self.view_is ∙ c.requires.none in
-    let fresh = ap (λ (n : State). n.expected) c.self.view_is ∙ c.requires.fresh in
-    subst IsState (c.in-Ok.ensures.ok s) (run_on-is_state c.threads.result.now (length c.words.result.now) _ c.args.inputs.now c.args.full s rules limits c.requires.inputs none fresh c.self.invariant)
-
-pub returns-in-Ok-clause-ok : goal.returns-in-Ok-clause-ok
-returns-in-Ok-clause-ok c =
-    let s = the_view c.self.inside in (
-      sym (c.in-Ok.ensures.ok s) ∙
-          run_on-of c.args.program.now c.args.limits.now c.args.inputs.now c.args.full s c.args.self.now c.self.view_is c.from.result c.from.ensures
-          c.threads.result.now c.threads.ensures.value c.words.result.now c.words.ensures.value c.steps.result c.instr.result c.steps.ensures.value c.instr.ensures.value,
-      refl,
+    let way = c.go_along-way.result in
+    let course = c.course-course.result in
+    let is : IsCourse c.args.program.now c.args.limits.now c.args.inputs.now c.args.full s course =
+    subst (λ (x : State). IsCourse c.args.program.now c.args.limits.now c.args.inputs.now c.args.full x course) (sym c.self.view_is) c.course-course.ensures in (
+      c.run_on_quietly.ensures.state ∙
+          sym (walked c.args.program.now c.args.limits.now c.args.inputs.now c.args.full course c.go_along-way.new.registers way.place way.instr s c.args.self.now c.self.view_is is c.go_along-way.ensures.same),
+      c.wanted-in_default.ensures,
     )
 
-pub returns-in-Err-clause-memory : goal.returns-in-Err-clause-memory
-returns-in-Err-clause-memory c =
+pub memory_step-requires-clause-fields : goal.memory_step-requires-clause-fields
+memory_step-requires-clause-fields c =
+    let m = holds_there c.go_along-way.result.memory (λ (i : Bor Instr). (slice_get c.course-course.result.code.now c.go_along-way.result.place ≡ Some i.now) × (is_memory i.now.op ≡ true) × (c.go_along-way.result.instr < c.course-course.result.most_instr))
+    c.in-Some.i c.in-Some.is c.go_along-way.ensures.memory in
+    let code = c.course-course.result.code.now in
+    names_registers (length code) c.in-Some.i.now (instr_at code c.go_along-way.result.place c.in-Some.i.now c.course-course.ensures.rules m.0)
+
+pub invariant_of-self-3 : goal.invariant_of-self-3
+invariant_of-self-3 c =
+    let m = holds_there c.go_along-way.result.memory (λ (i : Bor Instr). (slice_get c.course-course.result.code.now c.go_along-way.result.place ≡ Some i.now) × (is_memory i.now.op ≡ true) × (c.go_along-way.result.instr < c.course-course.result.most_instr))
+    c.in-Some.i c.in-Some.is c.go_along-way.ensures.memory in
     let s = the_view c.self.inside in
-    let e = run_on-of c.args.program.now c.args.limits.now c.args.inputs.now c.args.full s c.args.self.now c.self.view_is c.from.result c.from.ensures
-    c.threads.result.now c.threads.ensures.value c.words.result.now c.words.ensures.value c.steps.result c.instr.result c.steps.ensures.value c.instr.ensures.value in
-    let a = ap (λ (n : State). length n.output) e in
-    let b = ap (λ (n : State). length n.output) c.self.view_is in
-    let d = c.in-Err.ensures.err s in
-    omega (arith, a, b, d)
+    let way = c.go_along-way.result in
+    let none = ap (λ (n : State). n.pending) c.self.view_is ∙ c.requires.none in
+    let fresh = ap (λ (n : State). n.expected) c.self.view_is ∙ c.requires.fresh in
+    let there : State = record s { registers = c.go_along-way.new.registers; place = way.place; instr = way.instr } in
+    let course = c.course-course-2.result in
+    let is : IsCourse c.args.program.now c.args.limits.now c.args.inputs.now c.args.full there course = c.course-course-2.ensures in
+    let at = same_code c.args.program.now c.args.limits.now c.args.inputs.now c.args.full c.args.self.now there c.course-course.result course c.course-course.ensures is (ap (λ (n : State). n.thread) (sym c.self.view_is)) way.place (Some c.in-Some.i.now) m.0 in
+    let short = subst (λ (l : List ℕ). length l ≤ 65536) (sym is.inputs) c.requires.inputs in
+    let room : way.instr < course.most_instr = (let x = m.2 in let a = c.course-course.ensures.most_instr in let b = is.most_instr in omega (arith, x, a, b)) in
+    let comes = c.memory_step.ensures.value s way.place way.instr s.taken s.output room in
+    subst (λ (o : Option Want). IsState (record there { doing = c.in-Some.i.now; pending = o })) (sym c.memory_step.ensures.pending)
+    (subst IsState (stops c.args.program.now c.args.limits.now c.args.inputs.now c.args.full there course is c.in-Some.i.now c.memory_step.result at comes)
+    (run_on-is_state course.code.now course.words (bounds_of course) course.inputs.now course.full there is.rules is.bounds short none fresh (walks_to s c.go_along-way.new.registers way.place way.instr none fresh c.self.invariant c.go_along-way.ensures.state)))
+
+pub returns-clause-ok : goal.returns-clause-ok
+returns-clause-ok c =
+    let m = holds_there c.go_along-way.result.memory (λ (i : Bor Instr). (slice_get c.course-course.result.code.now c.go_along-way.result.place ≡ Some i.now) × (is_memory i.now.op ≡ true) × (c.go_along-way.result.instr < c.course-course.result.most_instr))
+    c.in-Some.i c.in-Some.is c.go_along-way.ensures.memory in
+    let s = the_view c.self.inside in
+    let way = c.go_along-way.result in
+    let there : State = record s { registers = c.go_along-way.new.registers; place = way.place; instr = way.instr } in
+    let course = c.course-course-2.result in
+    let is : IsCourse c.args.program.now c.args.limits.now c.args.inputs.now c.args.full there course = c.course-course-2.ensures in
+    let at = same_code c.args.program.now c.args.limits.now c.args.inputs.now c.args.full c.args.self.now there c.course-course.result course c.course-course.ensures is (ap (λ (n : State). n.thread) (sym c.self.view_is)) way.place (Some c.in-Some.i.now) m.0 in
+    let first : IsCourse c.args.program.now c.args.limits.now c.args.inputs.now c.args.full s c.course-course.result =
+    subst (λ (x : State). IsCourse c.args.program.now c.args.limits.now c.args.inputs.now c.args.full x c.course-course.result) (sym c.self.view_is) c.course-course.ensures in
+    let room : way.instr < course.most_instr = (let x = m.2 in let a = c.course-course.ensures.most_instr in let b = is.most_instr in omega (arith, x, a, b)) in
+    let comes = c.memory_step.ensures.value s way.place way.instr s.taken s.output room in (
+      ap (λ (o : Option Want). record there { doing = c.in-Some.i.now; pending = o }) c.memory_step.ensures.pending ∙
+          sym (walked c.args.program.now c.args.limits.now c.args.inputs.now c.args.full c.course-course.result c.go_along-way.new.registers way.place way.instr s c.args.self.now c.self.view_is first c.go_along-way.ensures.same ∙
+          stopped c.args.program.now c.args.limits.now c.args.inputs.now c.args.full there course is c.in-Some.i.now c.memory_step.result at comes),
+      c.memory_step.ensures.pending,
+    )
