@@ -1,5 +1,5 @@
 // The search: pair after pair, the lesser side first. It has no recursion and no list of pairs.
-ghost use Rattle.std.specs.Prelude.{◌≡◌, ℕ, ◌+◌, ◌<◌, ◌≤◌, List, [], length, reverse};
+ghost use Rattle.std.specs.Prelude.{◌≡◌, ℕ, ◌+◌, ◌<◌, ◌≤◌, MatchOption, List, [], length, reverse};
 ghost use Rattle.order_graph.specs.Graphs.{edges_of, nodes_of};
 ghost use Rattle.order_solver.specs.Rivals.{AreRivals, source_at, pair_in};
 ghost use Rattle.order_solver.specs.Cursors.{IsAt};
@@ -96,7 +96,15 @@ fn go_back<R: Rivals>(
     Ok(None)
 }
 
-// Searches all pairs, with at most so many dead ends.
+// The number of dead ends with one more; none where the budget is spent.
+fn one_more(dead: u32, budget: u32) -> Option<u32>
+    requires { dead ≤ budget }
+    ensures { MatchOption result (dead ≡ budget) (λ more. (more ≡ dead + 1) × (more ≤ budget)) }
+{
+    if dead < budget { Some(dead + 1) } else { None }
+}
+
+// Searches all pairs, with at most so many dead ends. One with nothing to go back to needs no budget: there is no choice.
 pub fn explore<R: Rivals>(
     rivals: &R,
     graph: &mut Graph,
@@ -114,10 +122,13 @@ pub fn explore<R: Rivals>(
         if take_pair(rivals, graph, frames, pair)? {
             at = next_to(pair);
         } else {
-            if dead == budget {
-                return Ok(Ending::Spent);
+            if frames.is_empty() {
+                return Ok(Ending::None);
             }
-            dead += 1;
+            let Some(more) = one_more(dead, budget) else {
+                return Ok(Ending::Spent);
+            };
+            dead = more;
             match go_back(rivals, graph, frames)? {
                 None => return Ok(Ending::None),
                 Some(next) => at = next,
