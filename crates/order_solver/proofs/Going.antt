@@ -359,8 +359,13 @@ pub went-some : (r : Rivalry) (old new : GraphState) (frames frames' : List Fram
 went-some r old new frames frames' o next w e = subst (λ (x : Option Cursor). WentBack r old frames new frames' (Ok x)) e w
 
 -- a dead end more is worth more than all pairs
-pub budget-falls : (budget dead all now next : ℕ) → dead ≤ budget → (dead ≡ budget → ⊥) → next ≤ all → (budget - (dead + 1)) * (all + 1) + next < (budget - dead) * (all + 1) + now
-budget-falls budget dead all now next l n m =
-    let e : budget - dead ≡ suc (budget - (dead + 1)) = omega (arith, l, n) in
-    let q : (budget - dead) * (all + 1) ≡ suc (budget - (dead + 1)) * (all + 1) = ap (λ (k : ℕ). k * (all + 1)) e in
+pub budget-falls : (budget dead more all now next : ℕ) → more ≡ dead + 1 → more ≤ budget → next ≤ all → (budget - more) * (all + 1) + next < (budget - dead) * (all + 1) + now
+budget-falls budget dead more all now next n l m =
+    let e : budget - dead ≡ suc (budget - more) = omega (arith, l, n) in
+    let q : (budget - dead) * (all + 1) ≡ suc (budget - more) * (all + 1) = ap (λ (k : ℕ). k * (all + 1)) e in
     omega (arith, q, m)
+
+-- no frame is left to go back to
+pub nothing-left : (r : Rivalry) (problem : PairProblem) (g : GraphState) (frames : List Frame) (dead : ℕ) → length frames ≡ 0 → Stands problem (rests_of r g.added (reverse frames)) None dead →
+    (rank : ℕ → ℕ) → Solves problem rank → ⊥
+nothing-left r problem g frames dead e s = ends.none problem dead (none-left r problem g.added frames dead e s)

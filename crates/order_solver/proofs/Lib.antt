@@ -11,3 +11,4 @@ pub mod OfLogs
 pub mod Lines
 pub mod Guessed
 pub mod OfOrders
+pub mod Forced

@@ -45,6 +45,17 @@ TookPair r at old frames new frames' (Ok false) = (new ≡ old) × (frames' ≡ 
     ((problem : PairProblem) (dead : ℕ) → StandsAt r problem old.added frames at dead → Stands problem (rests_of r old.added frames) None (dead + 1))
 TookPair r at old frames new frames' (Err _) = Unit {0}
 
+-- the search stands at a place, or is stuck there and has met one more dead end
+abbrev pub StandsOrStuck : Rivalry → List Edge → List Frame → Cursor → ℕ → Bool → Type 0
+StandsOrStuck r added frames at dead true = StandsAt r (problem_in r) added frames at dead
+StandsOrStuck r added frames at dead false = Stands (problem_in r) (rests_of r added frames) None (dead + 1)
+
+-- the search goes on after the pair with all that is forced, or is stuck
+abbrev pub Chose : Rivalry → Cursor → GraphState → List Frame → GraphState → List Frame → Result Bool Memory → Type 0
+Chose r at old frames new frames' (Ok stands) = (new.counts ≡ old.counts) × Stacked r new.added frames' ×
+    ((dead : ℕ) → StandsAt r (problem_in r) old.added frames at dead → StandsOrStuck r new.added frames' (next_of at) dead stands)
+Chose r at old frames new frames' (Err _) = Unit {0}
+
 -- the search goes on at the next pair, or has nothing left
 abbrev pub WentBack : Rivalry → GraphState → List Frame → GraphState → List Frame → Result (Option Cursor) Memory → Type 0
 WentBack r old frames new frames' (Ok (Some next)) = (new.counts ≡ old.counts) × IsPlace r next × Stacked r new.added frames' ×

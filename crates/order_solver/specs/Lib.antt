@@ -7,3 +7,4 @@ pub mod Findings
 pub mod Logs
 pub mod Readings
 pub mod Solving
+pub mod Forcing

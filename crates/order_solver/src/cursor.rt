@@ -32,3 +32,14 @@ pub fn next_to(at: Cursor) -> Cursor
         greater: at.greater + 1,
     }
 }
+
+// The pair of the same lesser source with this one.
+pub fn with_greater(at: Cursor, greater: u32) -> Cursor
+    ensures { result ≡ cursor at.word at.lesser greater }
+{
+    Cursor {
+        word: at.word,
+        lesser: at.lesser,
+        greater,
+    }
+}

@@ -5,6 +5,7 @@
 mod begin;
 mod cursor;
 mod finding;
+mod forcing;
 mod guessing;
 pub mod laws;
 mod pairs;
@@ -14,6 +15,7 @@ mod rows;
 mod search;
 mod sides;
 mod solving;
+mod taking;
 
 pub use finding::{Finding, find_line};
 pub use rivals::Rivals;

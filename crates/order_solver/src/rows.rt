@@ -12,7 +12,7 @@ use crate::sides::is_implied;
 use order_graph::Graph;
 
 // Whether the graph implies that one source of a word comes before another one, with its lasts.
-fn precedes<R: Rivals>(rivals: &R, graph: &Graph, word: u16, first: u32, then: u32) -> bool
+pub fn precedes<R: Rivals>(rivals: &R, graph: &Graph, word: u16, first: u32, then: u32) -> bool
     requires rivals { AreRivals (R.rivalry rivals.now) }
     requires counts { graph.now.counts ≡ (R.rivalry rivals.now).counts }
     requires word { word < (R.rivalry rivals.now).words }

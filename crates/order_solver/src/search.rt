@@ -1,16 +1,17 @@
 // The search: pair after pair, the lesser side first. It has no recursion and no list of pairs.
-ghost use Rattle.std.specs.Prelude.{◌≡◌, ℕ, ◌+◌, ◌<◌, ◌≤◌, List, [], length, reverse};
+ghost use Rattle.std.specs.Prelude.{◌≡◌, ℕ, ◌+◌, ◌<◌, ◌≤◌, MatchOption, List, [], length, reverse};
 ghost use Rattle.order_graph.specs.Graphs.{edges_of, nodes_of};
 ghost use Rattle.order_solver.specs.Rivals.{AreRivals, source_at, pair_in};
 ghost use Rattle.order_solver.specs.Cursors.{IsAt};
 ghost use Rattle.order_solver.specs.Sides.{Takes};
 ghost use Rattle.order_solver.specs.Begun.{IsBegun};
-ghost use Rattle.order_solver.specs.Frames.{Stacked, TookPair, WentBack, Explored};
+ghost use Rattle.order_solver.specs.Frames.{Stacked, TookPair, Chose, WentBack, Explored};
 
 use crate::cursor::{Cursor, first_of, next_to};
+use crate::forcing::force;
 use crate::pairs::next_pair;
 use crate::rivals::Rivals;
-use crate::sides::take_side;
+use crate::taking::{take_greater, take_lesser};
 use light_base::Memory;
 use order_graph::{Graph, Mark};
 
@@ -30,28 +31,6 @@ pub enum Ending {
     None,
     /// The budget is spent.
     Spent,
-}
-
-// Takes the lesser side of a pair where it is open.
-fn take_lesser<R: Rivals>(rivals: &R, graph: &mut Graph, at: Cursor) -> Result<bool, Memory>
-    requires rivals { AreRivals (R.rivalry rivals.now) }
-    requires counts { graph.old.counts ≡ (R.rivalry rivals.now).counts }
-    requires at { IsAt (R.rivalry rivals.now) at }
-    ensures { Takes (pair_in (R.rivalry rivals.now) at.word (source_at (R.rivalry rivals.now) at.word at.lesser) (source_at (R.rivalry rivals.now) at.word at.greater)).lesser graph.old result graph.new }
-{
-    let source = rivals.sources(at.word)[at.greater as usize];
-    take_side(graph, rivals.lasts(at.word, at.lesser), source)
-}
-
-// Takes the greater side of a pair where it is open.
-fn take_greater<R: Rivals>(rivals: &R, graph: &mut Graph, at: Cursor) -> Result<bool, Memory>
-    requires rivals { AreRivals (R.rivalry rivals.now) }
-    requires counts { graph.old.counts ≡ (R.rivalry rivals.now).counts }
-    requires at { IsAt (R.rivalry rivals.now) at }
-    ensures { Takes (pair_in (R.rivalry rivals.now) at.word (source_at (R.rivalry rivals.now) at.word at.lesser) (source_at (R.rivalry rivals.now) at.word at.greater)).greater graph.old result graph.new }
-{
-    let source = rivals.sources(at.word)[at.lesser as usize];
-    take_side(graph, rivals.lasts(at.word, at.greater), source)
 }
 
 // Takes the lesser side of a pair, and leaves the greater one for later; where the lesser one is shut, it takes that. False
@@ -96,7 +75,35 @@ fn go_back<R: Rivals>(
     Ok(None)
 }
 
-// Searches all pairs, with at most so many dead ends.
+// Takes a side of a pair, and then all that is forced. False where that meets a dead end.
+fn choose<R: Rivals>(
+    rivals: &R,
+    graph: &mut Graph,
+    frames: &mut Vec<Frame>,
+    at: Cursor,
+) -> Result<bool, Memory>
+    requires rivals { AreRivals (R.rivalry rivals.now) }
+    requires counts { graph.old.counts ≡ (R.rivalry rivals.now).counts }
+    requires stacked { Stacked (R.rivalry rivals.now) graph.old.added (reverse frames.old.items) }
+    requires at { IsAt (R.rivalry rivals.now) at }
+    ensures { Chose (R.rivalry rivals.now) at graph.old (reverse frames.old.items) graph.new (reverse frames.new.items) result }
+{
+    if take_pair(rivals, graph, frames, at)? {
+        return force(rivals, graph);
+    }
+    Ok(false)
+}
+
+// The number of dead ends with one more; none where the budget is spent.
+fn one_more(dead: u32, budget: u32) -> Option<u32>
+    requires { dead ≤ budget }
+    ensures { MatchOption result (dead ≡ budget) (λ more. (more ≡ dead + 1) × (more ≤ budget)) }
+{
+    if dead < budget { Some(dead + 1) } else { None }
+}
+
+// Searches all pairs, with at most so many dead ends. What is forced is taken at the start and after each choice. A dead end with
+// nothing to go back to needs no budget: there is no choice.
 pub fn explore<R: Rivals>(
     rivals: &R,
     graph: &mut Graph,
@@ -110,19 +117,27 @@ pub fn explore<R: Rivals>(
 {
     let mut at = first_of(0);
     let mut dead: u32 = 0;
-    while let Some(pair) = next_pair(rivals, graph, at) {
-        if take_pair(rivals, graph, frames, pair)? {
+    let mut stands = force(rivals, graph)?;
+    loop {
+        if stands {
+            let Some(pair) = next_pair(rivals, graph, at) else {
+                return Ok(Ending::Found);
+            };
+            stands = choose(rivals, graph, frames, pair)?;
             at = next_to(pair);
         } else {
-            if dead == budget {
+            if frames.is_empty() {
+                return Ok(Ending::None);
+            }
+            let Some(more) = one_more(dead, budget) else {
                 return Ok(Ending::Spent);
-            }
-            dead += 1;
-            match go_back(rivals, graph, frames)? {
-                None => return Ok(Ending::None),
-                Some(next) => at = next,
-            }
+            };
+            dead = more;
+            let Some(next) = go_back(rivals, graph, frames)? else {
+                return Ok(Ending::None);
+            };
+            at = next;
+            stands = force(rivals, graph)?;
         }
     }
-    Ok(Ending::Found)
 }

@@ -1,6 +1,6 @@
 use Rattle.std.proofs.Common.{arith}
 use Rattle.order_solver.proofs.Nodes.{source-node, lasts-nodes}
-use Rattle.order_solver.proofs.search.take_greater.Goals as goal
+use Rattle.order_solver.proofs.taking.take_greater.Goals as goal
 
 pub take_side-requires-clause-source : goal.take_side-requires-clause-source
 take_side-requires-clause-source g c =
