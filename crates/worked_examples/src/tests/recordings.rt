@@ -75,7 +75,7 @@ const READ_BETWEEN: Row = Row {
 };
 
 // Three threads exchange a number for what stands in the word: each takes what the one before left.
-const EXCHANGE_CHAIN: Row = Row {
+pub const EXCHANGE_CHAIN: Row = Row {
     program: ".words 1/.thread/set r1 1/xchg r1 r0 0/out r1/.thread/set r1 2/xchg r1 r0 0/out r1/.thread/set r1 3/xchg r1 r0 0/out r1",
     limits: MOST,
     order: &[0, 1, 2],
@@ -95,7 +95,7 @@ const BLIND_STORES: Row = Row {
 };
 
 // Between the two steps of a compare-exchange another thread writes the same value: it does not win.
-const OTHER_WRITER: Row = Row {
+pub const OTHER_WRITER: Row = Row {
     program: ".words 1/.init 0 5/.thread/set r1 5/set r2 8/cas r1 r0 r2 0/out r15/out r1/.thread/set r1 5/store r1 r0 0",
     limits: MOST,
     order: &[0, 1, 0],
@@ -238,7 +238,7 @@ const STORE_BUFFERING_IN_TURN: Row = Row {
 };
 
 // Each thread raises a flag and waits for the other one.
-const TWO_FLAGS: Row = Row {
+pub const TWO_FLAGS: Row = Row {
     program: arena_samples::TWO_FLAGS,
     limits: MOST,
     order: &[],
@@ -287,7 +287,7 @@ const TORN_PAIR: Row = Row {
     text: "thread 0 halted steps 2 instr 3/thread 1 halted steps 2 instr 4/out 0/out 1/word 0 1/word 1 1/",
 };
 
-static ROWS: [Row; 27] = [
+pub static ROWS: [Row; 27] = [
     OWN_WRITE,
     INITIAL_VALUE,
     LOST_UPDATE,
@@ -330,7 +330,7 @@ fn entry_of(alloc: Global, entry: &Entry) -> Result<String, AllocError> {
 }
 
 // The entries of all threads as a row tells them.
-fn entries_of(alloc: Global, recorded: &Recorded) -> Result<String, AllocError> {
+pub fn entries_of(alloc: Global, recorded: &Recorded) -> Result<String, AllocError> {
     let mut told = String::new(alloc);
     for thread in recorded.log().threads() {
         for entry in thread.entries() {
@@ -342,7 +342,7 @@ fn entries_of(alloc: Global, recorded: &Recorded) -> Result<String, AllocError> 
 }
 
 // The last tags, as a row tells them.
-fn lasts_of(alloc: Global, recorded: &Recorded) -> Result<String, AllocError> {
+pub fn lasts_of(alloc: Global, recorded: &Recorded) -> Result<String, AllocError> {
     let mut told = String::new(alloc);
     for tag in recorded.log().finals() {
         told.push_str(source_of(alloc, *tag)?.as_str())?;

@@ -111,19 +111,24 @@ const MOST_TURNS: u32 = 100_000_000;
 
 // Holds calls; none for ever.
 #[derive(Drop)]
-struct HoldingGate {
+pub struct HoldingGate {
     holds: [Hold; 2],
     // How many calls waited in vain.
     vain: AtomicU64,
 }
 
 impl HoldingGate {
-    fn new(holds: [((u8, u32), (u8, u32)); 2]) -> HoldingGate {
+    pub fn new(holds: [((u8, u32), (u8, u32)); 2]) -> HoldingGate {
         let [first, second] = holds;
         HoldingGate {
             holds: [Hold::new(first.0, first.1), Hold::new(second.0, second.1)],
             vain: AtomicU64::new(0),
         }
+    }
+
+    // How many calls waited in vain.
+    pub fn in_vain(&self) -> u64 {
+        self.vain.load(Ordering::SeqCst)
     }
 }
 
@@ -223,7 +228,7 @@ fn a_gate_puts_a_write_between(rt: HostRuntime) -> Result<(), Fail> {
     let row = OTHER_WRITER;
     let recorded = recorded(&rt, alloc, row.program, row.limits, &gate)?;
     check(&rt, alloc, &row, &recorded)?;
-    assert_eq!(rt; gate.vain.load(Ordering::SeqCst), 0);
+    assert_eq!(rt; gate.in_vain(), 0);
     Ok(())
 }
 
@@ -257,7 +262,7 @@ fn two_flags_are_raised_on_threads(rt: HostRuntime) -> Result<(), Fail> {
 fn both_threads_stand_at_the_gate(rt: HostRuntime) -> Result<(), Fail> {
     let gate = HoldingGate::new([((0, 1), (1, 1)), ((1, 1), (0, 1))]);
     flags_are_met(&rt, rt.alloc(), &gate)?;
-    assert_eq!(rt; gate.vain.load(Ordering::SeqCst), 0);
+    assert_eq!(rt; gate.in_vain(), 0);
     Ok(())
 }
 
