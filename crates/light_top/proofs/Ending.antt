@@ -35,7 +35,7 @@ module _ (command : Command) (files : Files) (task : Task) (is : given command f
   of_files P h = subst (λ (fs : Option Files). IfSome fs P) told h
 
   pub not_refused : (s : Status) → IfSome all (λ fs. given command fs ≡ Err s) → ⊥
-  not_refused s h = let err : Ok task ≡ Err s = subst (λ (r : Result Task Status). r ≡ Err s) is (of_files (λ fs. given command fs ≡ Err s) h) in absurd err
+  not_refused s h = let err : Ok task ≡ Err s = subst (λ (r : Result Task Status). r ≡ Err s) is (of_files (λ fs. given command fs ≡ Err s) h) in cc
 
   pub of_task : (P : Task → Type 0) → IfSome all (λ fs. IsOkAnd (given command fs) P) → P task
   of_task P h = subst (λ (r : Result Task Status). IsOkAnd r P) is (of_files (λ fs. IsOkAnd (given command fs) P) h)

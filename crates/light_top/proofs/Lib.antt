@@ -4,3 +4,4 @@ pub mod Headline
 pub mod Sizes
 pub mod Prints
 pub mod Replaying
+pub mod ArenaEnds

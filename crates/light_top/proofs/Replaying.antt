@@ -30,10 +30,10 @@ use Rattle.light_top.proofs.Ending.{not_refused, of_task, each_file}
 use Rattle.light_top.proofs.Prints.{is-same}
 
 module _ (fit : HistoryRunsFit) (respect : HistoryEventsRespect) (files : Files) (image name schedule : List ℕ) (budget : ℕ) (had : HasHistory files image name) where
-  log : Log
+  abbrev log : Log
   log = log_had files image name had
 
-  wanted : Task
+  abbrev wanted : Task
   wanted = task.Replay had.loaded log schedule budget
 
   own : of_program had.loaded log ≡ Ok log
@@ -49,7 +49,7 @@ module _ (fit : HistoryRunsFit) (respect : HistoryEventsRespect) (files : Files)
       ∙ (ap (λ (r : Result Log Status). r >>= λ l. of_program had.loaded l >>= λ o. Ok (task.Replay had.loaded o schedule budget)) had.logged
       ∙ ap (λ (r : Result Log Status). r >>= λ o. Ok (task.Replay had.loaded o schedule budget)) own)
 
-  Ending : Outside → Outside → Status → Type 0
+  abbrev Ending : Outside → Outside → Status → Type 0
   Ending old new s = EndsAgain had.loaded.program had.limits had.inputs had.history log schedule budget old new s
 
   module _ (old new : Outside) (told : old.files ≡ Some files) where

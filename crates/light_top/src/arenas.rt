@@ -49,13 +49,17 @@ fn last_values(alloc: Global, program: &Program, log: &RunLog) -> Result<Vec<u32
     ensures err { IfErr result (NotEnded program.now) }
 {
     history_log_law();
-    let order = find_order(alloc, log, 0)?;
+    let order = match find_order(alloc, log, 0) {
+        Ok(order) => order,
+        Err(status) => return Err(status),
+    };
     match replay_order(alloc, program, log, order.as_slice())? {
         Replayed::Same(_, values) => Ok(values),
         Replayed::Differs(_) => unreachable!(),
     }
 }
 
+#[tactic(auto, using(crate::proofs::ArenaEnds::eight_threads, crate::proofs::ArenaEnds::arena_values, crate::proofs::ArenaEnds::of_number))]
 /// Records the arena of a number on threads, replays the log, and tells of the end.
 pub fn play_arena<R: Threads + Sync, G: Gate>(
     rt: &R,

@@ -2,20 +2,19 @@
 ghost use Rattle.std.specs.Prelude.{◌≡◌, ◌<◌, ◌^◌, ◌++◌, length, IfOk, IfErr, OnOk};
 ghost use Rattle.replay_model.specs.Orders.{Respects};
 ghost use Rattle.log_file.specs.Schedules.{schedule_text};
-ghost use Rattle.light_top.specs.Logs.{logged_print, image_print};
 ghost use Rattle.order_solver.specs.Solving.{IsFound};
 ghost use Rattle.light_top.specs.Solving.{NotSolved, events_line, order_file, IsTranscript, NotReplayed};
 
 use crate::Status;
 use crate::bytes::Bytes;
-use crate::image::Image;
 use crate::order::Order;
 use crate::output::{Output, Saved};
 use crate::words::Name;
 use constraints::Problem;
 use dep_log::RunLog;
-use light_base::{Memory, put_decimal};
+use light_base::{Event, Memory, put_decimal};
 use log_file::write_schedule;
+use machine::Program;
 use order_solver::{Answer, solve};
 use replayer::{Replayed, replay_order};
 use std::alloc::Global;
@@ -68,16 +67,17 @@ pub fn with_order<'a>(
 /// The transcript of the program's runs that have the log, as a replay by the order finds them.
 pub fn replay_text(
     alloc: Global,
-    image: &Image,
+    program: &Program,
     log: &RunLog,
-    order: &Order,
+    order: &[Event],
 ) -> Result<Bytes, Status>
-    requires same { logged_print log.now ≡ image_print image.now }
+    requires threads { length program.now.threads ≡ length log.now.threads }
+    requires words { length program.now.words ≡ length log.now.lasts }
     requires order { Respects log.now order.now }
-    ensures ok { IfOk result (IsTranscript image.now.program log.now) }
-    ensures err { IfErr result (NotReplayed image.now.program log.now) }
+    ensures ok { IfOk result (IsTranscript program.now log.now) }
+    ensures err { IfErr result (NotReplayed program.now log.now) }
 {
-    match replay_order(alloc, image.program(), log, order.as_slice())? {
+    match replay_order(alloc, program, log, order)? {
         Replayed::Same(reports, values) => Ok(Bytes::of(text_of(alloc, &reports, &values)?)),
         Replayed::Differs(difference) => Err(Status::Differs(difference)),
     }

@@ -160,7 +160,8 @@ fn put_order_refusal(text: &mut Vec<u8>, kind: u64, i: u64, j: u64) -> Result<()
 {
     text.extend_from_slice(b"light: order refused")?;
     put_field(text, b" kind ", kind)?;
-    put_places(text, i, j)
+    put_places(text, i, j)?;
+    Ok(())
 }
 
 fn put_difference(text: &mut Vec<u8>, thread: u64, entry: u64) -> Result<(), Memory>

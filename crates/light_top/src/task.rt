@@ -223,7 +223,7 @@ fn replay_log<'a>(
     ensures err { IfErr result (NotReplayedWithin image.now.program log.now budget) }
 {
     let order = find_order(alloc, log, budget)?;
-    let text = replay_text(alloc, image, log, &order)?;
+    let text = replay_text(alloc, image.program(), log, order.as_slice())?;
     Ok(with_order(alloc, log, &order, schedule, text)?)
 }
 
