@@ -475,10 +475,133 @@ def order_fault(log, order):
     return None
 
 
+def some_order(log, rng=None):
+    """An order that respects the log, or None where there is none: found by what may come next, front after front. With a
+    generator of random numbers it is one or another of them."""
+    events, entries = events_of(log), entries_of(log)
+    lanes = {}
+    for e in events:
+        lanes.setdefault(e >> 28, []).append(e)
+    lanes = list(lanes.values())
+    if any(source and not log.lasts[word] for _, word, source, _, _ in entries):
+        return None
+
+    def may_come(e, placed):
+        """Whether no rule is broken by an event that comes next, after those that are placed."""
+        for t, word, source, first, last in entries:
+            last = tag(t, last)
+            over = last in placed or last == e
+            if tag(t, first) == e and source and source not in placed:
+                return False
+            if log.lasts[word] == e and source != e and not over:
+                return False
+            if source != e and (not source or source in placed) and not over and any(d[1] == word and d[2] == e for d in entries):
+                return False
+        return True
+
+    tried, order = set(), []
+
+    def go(front):
+        if len(order) == len(events):
+            return True
+        if front in tried:
+            return False
+        tried.add(front)
+        placed = set(order)
+        for k in rng.sample(range(len(lanes)), len(lanes)) if rng else range(len(lanes)):
+            lane = lanes[k]
+            if front[k] < len(lane) and may_come(lane[front[k]], placed):
+                order.append(lane[front[k]])
+                if go(front[:k] + (front[k] + 1,) + front[k + 1:]):
+                    return True
+                order.pop()
+        return False
+
+    return order if go((0,) * len(lanes)) else None
+
+
+# ---- the plain search
+
+class Problem:
+    """Events by tag, base edges, and rival pairs with the edges of their two sides. Edges are pairs of tags."""
+
+    def __init__(self, log):
+        self.events = events_of(log)
+        entries = entries_of(log)
+        read = sorted({(word, source) for _, word, source, _, _ in entries if source})
+        self.chains = {(a, b) for a, b in zip(self.events, self.events[1:]) if a >> 28 == b >> 28}
+        self.base = set()
+        self.impossible = False
+        for t, word, source, first, last in entries:
+            final, last = log.lasts[word], tag(t, last)
+            if source:
+                self.base.add((source, tag(t, first)))
+            else:
+                self.base |= {(last, other) for w, other in read if w == word and other != last}
+            if source != final:
+                self.impossible = self.impossible or not final
+                if final and last != final:
+                    self.base.add((last, final))
+
+        def side(word, before, after):
+            return {(tag(t, last), after) for t, w, source, _, last in entries if w == word and source == before} - {(after, after)}
+
+        self.pairs = [(side(w, a, b), side(w, b, a)) for w, a in read for v, b in read if v == w and a < b]
+
+
+def has_cycle(events, edges):
+    after, left = {}, {e: 0 for e in events}
+    for a, b in edges:
+        after.setdefault(a, []).append(b)
+        left[b] += 1
+    free = [e for e in events if not left[e]]
+    done = 0
+    while free:
+        done += 1
+        for b in after.get(free.pop(), []):
+            left[b] -= 1
+            if not left[b]:
+                free.append(b)
+    return done < len(events)
+
+
+def plain_search(log, most=None):
+    """Whether it finds a choice, and its dead ends; it gives up (None) once it has met more than `most`."""
+    problem = Problem(log)
+    start = problem.chains | problem.base
+    if problem.impossible or has_cycle(problem.events, start):
+        return False, 0
+    dead, stack = 0, [(0, start)]
+    while stack:
+        at, edges = stack.pop()
+        if at == len(problem.pairs):
+            return True, dead
+        open_sides = [edges | side for side in problem.pairs[at] if not has_cycle(problem.events, edges | side)]
+        stack += [(at + 1, more) for more in reversed(open_sides)]
+        if not open_sides:
+            dead += 1
+            if most is not None and dead > most:
+                return None, dead
+    return False, dead
+
+
 # ---- replay
 
+def end_name(end):
+    return "".join(part.capitalize() for part in ENDS[end[0]].split("-")) + ("(%d)" % end[1] if end[0] == 2 else "")
+
+
+def kept_at(head, place):
+    """What a thread's log keeps at a place, as text: an entry, or after the last one the tail."""
+    if place < len(head["entries"]):
+        word, source, first, last = head["entries"][place]
+        return "entry %d %s %d %d" % (word, source_text(source), first, last)
+    return "tail %d %d %s %d" % (head["steps"], head["instr"], end_name(head["end"]), len(head["taken"]))
+
+
 def replay(image, log, order):
-    """Plays by the order, leaving out unseen writes: (None, transcript), or (the first difference, None)."""
+    """Plays by the order, leaving out unseen writes: (None, transcript), or (the first difference, None). A difference is
+    the thread, the entry, and as texts what is logged and what was found."""
     program = read_image(image)
     memory = [[value, 0] for value in program[0]]
     threads = threads_of(program, log.limits, [t["taken"] for t in log.threads])
@@ -492,12 +615,10 @@ def replay(image, log, order):
             pass
     found = log_of(image, log.limits, threads, memory)
     for number, (a, b) in enumerate(zip(log.threads, found.threads)):
-        for k in range(max(len(a["entries"]), len(b["entries"]))):
-            if k >= len(a["entries"]) or k >= len(b["entries"]) or a["entries"][k] != b["entries"][k]:
-                return (number, k), None
-        if (a["steps"], a["instr"], a["end"], len(a["taken"])) != (b["steps"], b["instr"], b["end"], len(b["taken"])):
-            return (number, len(a["entries"])), None
+        for k in range(min(len(a["entries"]), len(b["entries"])) + 1):
+            if kept_at(a, k) != kept_at(b, k):
+                return (number, k, kept_at(a, k), kept_at(b, k)), None
     for w, (a, b) in enumerate(zip(log.lasts, found.lasts)):
         if a != b:
-            return (len(log.threads), w), None
+            return (len(log.threads), w, "last " + source_text(a), "last " + source_text(b)), None
     return None, transcript(threads, memory)
