@@ -1,9 +1,9 @@
 .PHONY: run try test
 
-# The shipped example that is assembled and recorded: a name of examples/, as in `make run EXAMPLE=aba`.
+# The shipped example that is recorded and replayed: a name of examples/, as in `make run EXAMPLE=aba`.
 EXAMPLE = lost_update
 
-# Proves and builds the program, assembles the example, records it on threads, and shows its transcript and its log.
+# Proves and builds the program, assembles the example, records it on threads, replays the log, and compares the transcripts.
 run:
 	@tools/example run $(EXAMPLE)
 

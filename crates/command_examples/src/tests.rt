@@ -3,7 +3,9 @@ use light_base::{MemSink, MemStore};
 use light_top::{OpenGate, Status, light, status_text};
 use std::test::Fail;
 
+mod arenas;
 mod contents;
+mod faults;
 mod histories;
 mod inputs;
 mod logs;
@@ -42,6 +44,7 @@ fn commands_end_as_told(rt: HostRuntime) -> Result<(), Fail> {
         logs::SHOWN.as_slice(),
         logs::REFUSED.as_slice(),
         logs::CUT.as_slice(),
+        arenas::FAULTS.as_slice(),
         orders::REFUSED.as_slice(),
         orders::STOPPED.as_slice(),
         solves::ONLY.as_slice(),
@@ -51,6 +54,18 @@ fn commands_end_as_told(rt: HostRuntime) -> Result<(), Fail> {
         replays::STOPPED.as_slice(),
     ] {
         for row in table {
+            check(&rt, alloc, row)?;
+        }
+    }
+    Ok(())
+}
+
+// Each time threads run, and what they do differs; the summary does not.
+#[test]
+fn arenas_end_with_all_their_points(rt: HostRuntime) -> Result<(), Fail> {
+    let alloc = rt.alloc();
+    for _ in 0..3 {
+        for row in &arenas::ARENAS {
             check(&rt, alloc, row)?;
         }
     }
@@ -109,38 +124,12 @@ fn words_that_are_no_command(rt: HostRuntime) -> Result<(), Fail> {
     Ok(())
 }
 
-// The bytes before the put that fails are taken, and no others.
+// Each call of the store and each put fails once, over every command.
 #[test]
-fn texts_are_put_up_to_the_fault(rt: HostRuntime) -> Result<(), Fail> {
+fn every_fault_is_told(rt: HostRuntime) -> Result<(), Fail> {
     let alloc = rt.alloc();
-    for (line, text) in [
-        ("run i 1 1 1", contents::SMALLEST_TEXT),
-        ("list i", contents::SMALLEST_SOURCE),
-    ] {
-        let words = words_of(alloc, line)?;
-        let image = contents::bytes_of(alloc, contents::SMALLEST)?;
-        let text = contents::bytes_of(alloc, text)?;
-        for taken in 0..text.len() {
-            let mut store = MemStore::new(alloc, Vec::new(alloc));
-            store.put_file("i", &image)?;
-            let fail = taken as u64 + 1;
-            let mut out = MemSink::new(alloc, 1, Vec::from_slice(alloc, &[fail])?);
-            assert_eq!(rt;
-                light(&rt, alloc, &words, &mut store, &mut out, &OpenGate),
-                Status::SinkFault
-            );
-            assert_eq!(rt; out.taken(), &text[..taken]);
-            assert!(rt; store.file("i") == Some(image.as_slice()));
-        }
-        let mut store = MemStore::new(alloc, Vec::new(alloc));
-        store.put_file("i", &image)?;
-        let after_all = text.len() as u64 + 1;
-        let mut out = MemSink::new(alloc, 1, Vec::from_slice(alloc, &[after_all])?);
-        assert_eq!(rt;
-            light(&rt, alloc, &words, &mut store, &mut out, &OpenGate),
-            Status::Ok
-        );
-        assert_eq!(rt; out.taken(), text.as_slice());
+    for (row, calls) in &faults::COMMANDS {
+        faults::check_faults(&rt, alloc, row, *calls)?;
     }
     Ok(())
 }

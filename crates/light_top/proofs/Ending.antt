@@ -1,15 +1,17 @@
 -- What follows from how a command ended.
-use Rattle.std.proofs.Common.{◌≡◌, ℕ, List, Option, None, Some, Result, Ok, Err, IfOk, IfSome, IsOkAnd, sym, subst}
+use Rattle.std.proofs.Common.{◌≡◌, ℕ, List, Option, None, Some, Result, Ok, Err, IfOk, IfSome, IsOkAnd, IsTrue, sym, refl, subst, inl, inr, ◌⊎◌}
 use Rattle.light_base.specs.FileMap.{Files}
 use Rattle.light_top.specs.Outputs.{Output}
 use Rattle.machine.specs.Inputs.{InputsValue}
 use Rattle.light_top.specs.Given.{◌>>=◌, numbers_in, matched, inputs_in, given, Gives}
 use Rattle.light_top.specs.Tasks.{Means, Fails, CanSucceed}
 use Rattle.light_top.specs.Outside.{Outside}
-use Rattle.light_top.specs.Ends.{EndsUndone, CanBeDone}
+use Rattle.light_top.specs.Statuses.{IsFailure}
+use Rattle.light_top.specs.Ends.{EndsEarly, EndsLate, EndsUndone, Ends, IsExcused, Declines, CanBeDone}
 use Rattle.light_top.specs.declared.words.Command.{Command}
 use Rattle.light_top.specs.declared.task.Task.{Task}
 use Rattle.light_top.specs.declared.status.Status.{Status}
+use Rattle.light_top.specs.declared.status.Status.TheVariants as status
 
 -- what a task means is meant by the command that it was given for
 pub is_meant : (files : Option Files) (command : Command) (task : Task) (output : Output) → Gives files (given command) task → Means task output → IfSome files (λ fs. IsOkAnd (given command fs) (λ t. Means t output))
@@ -26,6 +28,41 @@ pub not_undone : (command : Command) (old new : Outside) (s : Status) → EndsUn
 not_undone command old new s undone can =
     let P : Option Files → Type 0 = λ files. IfSome files (λ fs. IsOkAnd (given command fs) (λ t. Fails t s)) in
     no_failure (given command can.files) s (subst P can.told undone.1) can.ready
+
+-- where a command's task is known, it is not refused, and what was said of its task is so of this one
+module _ (command : Command) (files : Files) (task : Task) (is : given command files ≡ Ok task) (all : Option Files) (told : all ≡ Some files) where
+  of_files : (P : Files → Type 0) → IfSome all P → P files
+  of_files P h = subst (λ (fs : Option Files). IfSome fs P) told h
+
+  pub not_refused : (s : Status) → IfSome all (λ fs. given command fs ≡ Err s) → ⊥
+  not_refused s h = let err : Ok task ≡ Err s = subst (λ (r : Result Task Status). r ≡ Err s) is (of_files (λ fs. given command fs ≡ Err s) h) in absurd err
+
+  pub of_task : (P : Task → Type 0) → IfSome all (λ fs. IsOkAnd (given command fs) P) → P task
+  of_task P h = subst (λ (r : Result Task Status). IsOkAnd r P) is (of_files (λ fs. IsOkAnd (given command fs) P) h)
+
+module _ (command : Command) (files : Files) (task : Task) (is : given command files ≡ Ok task) (old new : Outside) (told : old.files ≡ Some files) (none : (output : Output) → Means task output → ⊥) where
+  Answer : Status → Type 0
+  Answer s = (IsFailure s × Fails task s) ⊎ IsExcused old.sound s
+
+  early : (s : Status) → EndsEarly command old new s → Answer s
+  early status.StoreFault h =
+      inr (inr (refl, λ sound. not_refused command files task is (Some files) refl status.StoreFault (subst (λ (fs : Option Files). IfSome fs (λ f. IsTrue old.sound → given command f ≡ Err status.StoreFault)) told h.1.0 sound)))
+  early status.Memory h = inr (inl refl)
+  early s h = absurd (not_refused command files task is old.files told s h.1.0)
+
+  answered : (s : Status) → Ends command old new s → Answer s
+  answered s (inl h) = early s h
+  answered s (inr (inl late)) = absurd (none late.output (of_task command files task is old.files told (λ (t : Task). Means t late.output) late.meant))
+  answered s (inr (inr h)) = inl (h.0, of_task command files task is old.files told (λ (t : Task). Fails t s) h.1.0)
+
+-- where the files are told, this is so of them
+pub each_file : (all : Option Files) (P : Files → Type 0) → ((fs : Files) → all ≡ Some fs → P fs) → IfSome all P
+each_file None P f = tt
+each_file (Some fs) P f = f fs refl
+
+-- a task that nothing can be of is answered by why it cannot be done
+pub declined : (command : Command) (old new : Outside) (s : Status) → Ends command old new s → IfSome old.files (λ files. Declines command files old.sound s)
+declined command old new s ends = each_file old.files _ (λ files told task is none. answered command files task is old new told none s ends)
 
 -- inputs that the files give, and that match the program
 pub gives_matched : (files : Option Files) (name : Option (List ℕ)) (own : List ℕ) (threads : ℕ) (inputs : InputsValue) (result : Result InputsValue Status) → name ≡ Some own →

@@ -1,3 +1,6 @@
 pub mod Numbers
 pub mod Ending
 pub mod Headline
+pub mod Sizes
+pub mod Prints
+pub mod Replaying

@@ -1,5 +1,5 @@
 -- How a command may end: for each status, what must have come and what stands afterwards.
-use Rattle.std.specs.Prelude.{◌≡◌, ◌≤◌, ◌⊎◌, Bool, IsTrue, Some, is_some, Err, IfSome, IsOkAnd}
+use Rattle.std.specs.Prelude.{◌≡◌, ◌≤◌, ◌⊎◌, Bool, IsTrue, Some, is_some, Ok, Err, IfSome, IsOkAnd}
 use Rattle.light_base.specs.Causes.{Rose}
 use Rattle.light_base.specs.FileMap.{Files}
 use Rattle.light_top.specs.Statuses.{IsRefusal, IsFailure}
@@ -9,6 +9,7 @@ use Rattle.light_top.specs.Delivery.{Delivered}
 use Rattle.light_top.specs.Given.{given}
 use Rattle.light_top.specs.Tasks.{Means, Fails, CanSucceed}
 use Rattle.light_top.specs.declared.words.Command.{Command}
+use Rattle.light_top.specs.declared.task.Task.{Task}
 use Rattle.light_top.specs.declared.status.Status.{Status}
 use Rattle.light_top.specs.declared.status.Status.TheVariants as status
 
@@ -39,6 +40,11 @@ IsExcused sound s = (s ≡ status.Memory) ⊎ ((s ≡ status.StoreFault) × (IsT
 -- what stands in the way first is what is answered
 abbrev pub Answers : Command → Files → Bool → Status → Type 0
 Answers command files sound s = (refusal : Status) → given command files ≡ Err refusal → (s ≡ refusal) ⊎ IsExcused sound s
+
+-- a task of which no output can be is answered by why it cannot be done
+abbrev pub Declines : Command → Files → Bool → Status → Type 0
+Declines command files sound s = (task : Task) → given command files ≡ Ok task → ((output : Output) → Means task output → ⊥) →
+    (IsFailure s × Fails task s) ⊎ IsExcused sound s
 
 -- the sink counted no fault, nor did the store, unless it is sound, and the files give a task that can be done
 pub record CanBeDone (command : Command) (old new : Outside) : Type 0 where

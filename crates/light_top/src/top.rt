@@ -4,14 +4,15 @@ ghost use Rattle.light_base.specs.Causes.{Rose};
 ghost use Rattle.light_top.specs.Words.{texts, command_of};
 ghost use Rattle.light_top.specs.Statuses.{status_of};
 ghost use Rattle.light_top.specs.Outside.{outside};
-ghost use Rattle.light_top.specs.Ends.{Ends, Answers, CanBeDone, Continues};
-ghost use Rattle.light_top.specs.Headline.{Records};
+ghost use Rattle.light_top.specs.Ends.{Ends, Answers, Declines, CanBeDone, Continues};
+ghost use Rattle.light_top.specs.Headline.{Records, Replays};
 
 use crate::Status;
 use crate::delivery::deliver;
 use crate::loading::take_up;
 use crate::task::perform;
 use crate::words::{Command, read_command};
+use history::history_log_law;
 use light_base::{Sink, Store};
 use recorder::Gate;
 use std::alloc::Global;
@@ -35,7 +36,7 @@ fn carry_out<R: Threads + Sync, S: Store, K: Sink, G: Gate>(
 }
 
 /// Does what the words say. Where it runs threads, each of them passes the gate before each of its memory steps.
-#[tactic(auto, using(crate::proofs::Ending::not_undone, crate::proofs::Headline::recorded))]
+#[tactic(auto, using(crate::proofs::Ending::not_undone, crate::proofs::Ending::declined, crate::proofs::Headline::recorded, crate::proofs::Replaying::replayed))]
 pub fn light<R: Threads + Sync, S: Store, K: Sink, G: Gate>(
     rt: &R,
     alloc: Global,
@@ -58,8 +59,13 @@ pub fn light<R: Threads + Sync, S: Store, K: Sink, G: Gate>(
     ensures records { IfSome (command_of (texts words.now)) (λ command. Records command (outside S.files S.sound S.faults K.taken K.faults store.old out.old)
         (outside S.files S.sound S.faults K.taken K.faults store.new out.new) result) }
 
+    // Handed a program and the log of any history of it, a replay prints that history's transcript.
+    ensures replays { IfSome (command_of (texts words.now)) (λ command. Replays command (outside S.files S.sound S.faults K.taken K.faults store.old out.old)
+        (outside S.files S.sound S.faults K.taken K.faults store.new out.new) result) }
+
     // What stands in the way is answered, and where nothing does, it is done.
     ensures answers { IfSome (command_of (texts words.now)) (λ command. IfSome (S.files store.old) (λ files. Answers command files (S.sound store.old) result)) }
+    ensures declines { IfSome (command_of (texts words.now)) (λ command. IfSome (S.files store.old) (λ files. Declines command files (S.sound store.old) result)) }
     ensures complete { IfSome (command_of (texts words.now)) (λ command. CanBeDone command (outside S.files S.sound S.faults K.taken K.faults store.old out.old)
         (outside S.files S.sound S.faults K.taken K.faults store.new out.new) → (result ≡ Status.Ok) ⊎ (result ≡ Status.Memory)) }
 
@@ -67,6 +73,7 @@ pub fn light<R: Threads + Sync, S: Store, K: Sink, G: Gate>(
     ensures store_fault { result ≡ Status.StoreFault → Rose (S.faults store.old) (S.faults store.new) }
     ensures sink_fault { result ≡ Status.SinkFault → Rose (K.faults out.old) (K.faults out.new) }
 {
+    history_log_law();
     match read_command(words) {
         Some(command) => match carry_out(rt, alloc, store, out, gate, command) {
             Ok(()) => Status::Ok,

@@ -9,7 +9,7 @@ pub const TAKER: Content = Content::Hex(
 
 const SEVEN_BYTES: &str = "4c494e31 01 00000001 00000007";
 
-const SEVEN: Content = Content::Hex(SEVEN_BYTES);
+pub const SEVEN: Content = Content::Hex(SEVEN_BYTES);
 
 const SEVEN_TO_NINE: Content = Content::Hex("4c494e31 01 00000003 00000007 00000008 00000009");
 

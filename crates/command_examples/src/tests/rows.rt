@@ -41,6 +41,7 @@ pub fn words_of(alloc: Global, line: &str) -> Result<Vec<String>, AllocError> {
     Ok(all)
 }
 
+// Whether the file has this content.
 pub fn holds(
     alloc: Global,
     store: &MemStore,
