@@ -1,18 +1,18 @@
 -- What a judge lets stand is a row that a search may answer.
-use Rattle.std.proofs.Common.{◌≡◌, ℕ, zero, suc, ◌+◌, ◌<◌, ◌≤◌, true, List, [], ◌∷◌, ◌++◌, length, get_or, refl, sym, ◌∙◌, ap, subst, arith, inl, inr, ◌⊎◌}
+use Rattle.std.proofs.Common.{◌≡◌, ℕ, zero, suc, ◌+◌, ◌<◌, ◌≤◌, List, [], ◌∷◌, ◌++◌, length, get_or, refl, sym, ◌∙◌, ap, subst, arith, inl, inr, ◌⊎◌}
 use Rattle.std.specs.Prelude.{All, Contains, sum, map, filter, not, eqb, Result, Ok, Err, Bool, IfOk, IsTrue, ◌↔◌}
 use Rattle.std.specs.List.{flat_map, range_with_len}
-use Rattle.std.proofs.lemmas.Bool.{cases_lt, cases_eq}
+use Rattle.std.proofs.lemmas.Bool.{cases_lt}
 use Rattle.light_base.specs.declared.memory.Memory.{Memory}
 use Rattle.std.proofs.lemmas.List.{get_or_default, append-nil}
 use Rattle.std.proofs.lemmas.List.Folds.{flat_map-map}
 use Rattle.std.proofs.lemmas.List.FromFn.{map-range_with_len_more}
 use Rattle.std.proofs.lemmas.Grind.{flat_map-append}
-use Rattle.std.proofs.lemmas.List.Elements.{All-nil, All-cons, All-head, All-tail, All-append, All-from_get_or, All-contains, Contains-get_or, Contains-append_cases}
+use Rattle.std.proofs.lemmas.List.Elements.{All-nil, All-head, All-tail, All-append, All-contains, Contains-append_cases}
 use Rattle.plain_search.specs.declared.Edge.{Edge}
-use Rattle.plain_search.specs.Chains.{arrow, chains_from}
+use Rattle.plain_search.specs.Chains.{arrow}
 use Rattle.plain_search.specs.Edges.{Holds}
-use Rattle.plain_search.specs.Searches.{Pair, Solves, HoldsOneSide, problem_of}
+use Rattle.plain_search.specs.Searches.{Pair, Solves, HoldsOneSide}
 use Rattle.plain_search.proofs.Choosing.{Solved, solves-lesser, solves-greater, solves-cases}
 use Rattle.constraints.specs.Constraints.{edges_to, pairs_among}
 use Rattle.constraints.specs.Laws.{IsLine}

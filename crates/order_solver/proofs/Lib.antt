@@ -10,3 +10,4 @@ pub mod Prefixes
 pub mod OfLogs
 pub mod Lines
 pub mod Guessed
+pub mod OfOrders

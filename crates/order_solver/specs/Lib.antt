@@ -6,3 +6,4 @@ pub mod Frames
 pub mod Findings
 pub mod Logs
 pub mod Readings
+pub mod Solving

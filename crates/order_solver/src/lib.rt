@@ -1,15 +1,20 @@
-//! A search for an order of nodes in which for each two sources of a word one comes first with all its lasts.
+//! A search for an order of nodes in which for each two sources of a word one comes first with all its lasts, and the solver
+//! of a log that stands on it.
 #![tactic(auto)]
 
 mod begin;
 mod cursor;
 mod finding;
 mod guessing;
+pub mod laws;
 mod pairs;
+mod problems;
 mod rivals;
 mod rows;
 mod search;
 mod sides;
+mod solving;
 
 pub use finding::{Finding, find_line};
 pub use rivals::Rivals;
+pub use solving::{Answer, solve};
