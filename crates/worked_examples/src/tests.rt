@@ -5,6 +5,7 @@ use machine::{Inputs, Limits, Program, RunReport};
 
 mod arenas;
 mod graphs;
+mod growing_logs;
 mod images;
 mod logs;
 mod numbers;
