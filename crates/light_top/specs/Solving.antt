@@ -1,8 +1,7 @@
 -- Orders that are found, and replays by them.
-use Rattle.std.specs.Prelude.{◌≡◌, ℕ, ◌<◌, ◌^◌, List, [], ◌∷◌, ◌++◌, codes, length, All, Option, Some}
+use Rattle.std.specs.Prelude.{◌≡◌, ℕ, ◌<◌, List, [], ◌∷◌, ◌++◌, codes, length, Some}
 use Rattle.std.specs.Fmt.{decimal}
 use Rattle.light_base.specs.declared.tag.Event.{Event}
-use Rattle.light_base.specs.Tags.{HasTag}
 use Rattle.replay_model.specs.Steps.{Step}
 use Rattle.replay_model.specs.Logs.{Log}
 use Rattle.replay_model.specs.Orders.{Respects}
@@ -24,12 +23,6 @@ use Rattle.light_top.specs.Outputs.{Output, Saved, printed_and_saved}
 use Rattle.light_top.specs.Statuses.{IsFailure}
 use Rattle.light_top.specs.declared.status.Status.{Status}
 use Rattle.light_top.specs.declared.status.Status.TheVariants as status
-
--- an order that respects the log, of events that can be written down
-pub record IsOrderOf (log : Log) (order : List Event) : Type 0 where
-  pub respects : Respects log order
-  pub events : All HasTag order
-  pub few : length order < 2 ^ 28
 
 -- why no order was found: none respects the log, or the plain search has more dead ends than the budget
 abbrev pub Unsolved : Log → ℕ → Status → Type 0

@@ -3,7 +3,8 @@ ghost use Rattle.std.specs.Prelude.{◌≡◌, ◌<◌, ◌^◌, ◌++◌, lengt
 ghost use Rattle.replay_model.specs.Orders.{Respects};
 ghost use Rattle.log_file.specs.Schedules.{schedule_text};
 ghost use Rattle.light_top.specs.Logs.{logged_print, image_print};
-ghost use Rattle.light_top.specs.Solving.{IsOrderOf, NotSolved, events_line, order_file, IsTranscript, NotReplayed};
+ghost use Rattle.order_solver.specs.Solving.{IsFound};
+ghost use Rattle.light_top.specs.Solving.{NotSolved, events_line, order_file, IsTranscript, NotReplayed};
 
 use crate::Status;
 use crate::bytes::Bytes;
@@ -15,16 +16,22 @@ use constraints::Problem;
 use dep_log::RunLog;
 use light_base::{Memory, put_decimal};
 use log_file::write_schedule;
+use order_solver::{Answer, solve};
 use replayer::{Replayed, replay_order};
 use std::alloc::Global;
 use transcript::text_of;
 
-/// An order that respects the log.
+/// An order that respects the log, found with at most so many dead ends.
 pub fn find_order(alloc: Global, log: &RunLog, budget: u32) -> Result<Order, Status>
-    ensures ok { IfOk result (IsOrderOf log.now) }
+    ensures ok { IfOk result (λ order. IsFound log.now order) }
     ensures err { IfErr result (NotSolved log.now budget) }
 {
-    Err(Status::Memory)
+    let problem = Problem::of(alloc, log)?;
+    match solve(alloc, &problem, budget)? {
+        Answer::Found(events) => Ok(Order::of(events)),
+        Answer::NoSchedule => Err(Status::NoSchedule),
+        Answer::Spent => Err(Status::Spent),
+    }
 }
 
 /// How many events an order has, as a line.
@@ -47,7 +54,7 @@ pub fn with_order<'a>(
     name: Name<'a>,
     text: Bytes,
 ) -> Result<Output<'a>, Memory>
-    requires { IsOrderOf log.now order.now }
+    requires { IsFound log.now order.now }
     ensures text { IfOk result (λ output. output.text ≡ text) }
     ensures file { IfOk result (λ output. output.saved ≡ Some (order_file name.entry order.now)) }
 {

@@ -43,7 +43,7 @@ image_of h (x ∷ xs) y (suc k, l, e) =
     (there.0, (suc there.1.0, omega (arith, there.1.1), there.1.2), there.2)
 
 -- the image of an element
-image_there : {A B : Type 0} (h : A → B) (xs : List A) (x : A) → Contains xs x → Contains (map h xs) (h x)
+pub image_there : {A B : Type 0} (h : A → B) (xs : List A) (x : A) → Contains xs x → Contains (map h xs) (h x)
 image_there h [] x c = absurd (omega (arith, c.1))
 image_there h (y ∷ xs) x (zero, l, e) = (0, omega arith, ap h e)
 image_there h (y ∷ xs) x (suc k, l, e) = let there = image_there h xs x (k, omega (arith, l), e) in (suc there.0, omega (arith, there.1), there.2)

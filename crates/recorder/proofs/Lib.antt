@@ -6,3 +6,7 @@ pub mod ThreadFacts
 pub mod Runners
 pub mod Finishing
 pub mod Gathering
+pub mod Rounds
+pub mod Sharing
+pub mod Endings
+pub mod Dealing

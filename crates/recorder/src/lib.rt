@@ -6,15 +6,18 @@
 
 mod entries;
 mod gate;
+mod groups;
 mod recorded;
 mod runner;
 mod thread_logs;
 mod thread_runs;
 mod threads;
 mod turns;
+mod workers;
 
 pub use gate::{Gate, OpenGate};
+pub use groups::{BrokenGroup, run_group};
 pub use recorded::Recorded;
 pub use thread_runs::{Broken, Finished, run_thread};
-pub use threads::record;
+pub use threads::{record, record_workers};
 pub use turns::record_turns;

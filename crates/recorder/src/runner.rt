@@ -119,6 +119,7 @@ fn tell(log: &mut DepLog, core: &mut Core, want: &Want, found: Option<Cell>, num
 
 impl<'a> Runner<'a> {
     ghost use Rattle.recorder.specs.Running.{Advances, HasRun, IsAtEnd, IsSame};
+    ghost use Rattle.recorder.specs.Grouped.{RanFor};
 
     // A thread at its start, with all the memory that its steps need.
     pub(crate) fn new(
@@ -175,14 +176,19 @@ impl<'a> Runner<'a> {
         Ok(true)
     }
 
-    // Runs to the end.
-    pub(crate) fn run<G: Gate>(&mut self, gate: &G) -> Result<(), Memory>
+    // Runs for so many memory steps, or up to the end where that comes first. Whether it goes on.
+    pub(crate) fn run<G: Gate>(&mut self, steps: u32, gate: &G) -> Result<bool, Memory>
+        requires { 1 ≤ steps }
         ensures same { IsSame self.old self.new }
-        ensures ok { OnOk result (IsAtEnd self.new) }
+        ensures ok { IfOk result (λ goes_on. RanFor self.old goes_on steps self.new) }
         ensures err { OnErr result (puts_out (code_of self.old.program self.old.hand.thread) ≡ true) }
     {
-        while self.step(gate)? {}
-        Ok(())
+        for _ in 0..steps {
+            if !self.step(gate)? {
+                return Ok(false);
+            }
+        }
+        Ok(true)
     }
 
     // What comes of a thread that has ended.

@@ -49,9 +49,11 @@ pub fn run_thread<G: Gate>(
     ensures broken { IfErr result (λ b. IsOf words.now b.hand × (b.hand.thread ≡ hand.thread)) }
     ensures memory { IfErr result (λ b. (b.hand.steps ≡ []) ⊎ (puts_out (code_of program.now hand.thread) ≡ true)) }
 {
+    // So it ends before it has taken as many steps as it is asked for.
+    prove!(limits.steps() < u32::MAX);
     let mut runner = Runner::new(alloc, words, hand, program, limits, inputs)?;
-    match runner.run(gate) {
-        Ok(()) => Ok(runner.finish()),
+    match runner.run(u32::MAX, gate) {
+        Ok(_) => Ok(runner.finish()),
         Err(Memory) => Err(Broken {
             hand: runner.into_hand(),
         }),

@@ -1,93 +1,23 @@
 // Recording on threads.
-ghost use Rattle.std.specs.Prelude.{◌≡◌, ℕ, ◌<◌, List, All, IfOk, length, map};
+ghost use Rattle.std.specs.Prelude.{◌≡◌, ℕ, ◌≤◌, List, All, IfOk, length, map};
 ghost use Rattle.std.specs.List.{range_with_len};
-ghost use Rattle.std.specs.Thread.{IsSync};
 ghost use Rattle.history.specs.Histories.{IsHistory};
 ghost use Rattle.replay_model.specs.RunLogs.{last_tags};
 ghost use Rattle.replay_model.specs.WellFormed.{IsWellFormed};
 ghost use Rattle.recorder.specs.Records.{no_digest, recorded_of};
-ghost use Rattle.recorder.specs.Gathered.{IsReady, IsDone, hand_in, log_in, report_in, thread_in, thread_of_hand};
+ghost use Rattle.recorder.specs.Gathered.{IsDone, hand_in, log_in, report_in, thread_in};
 
 use crate::Gate;
 use crate::recorded::Recorded;
-use crate::thread_runs::{Finished, run_thread};
+use crate::thread_runs::Finished;
 use crate::turns::last_tags;
+use crate::workers::{collected, dealt, run_groups};
 use dep_log::{RunLog, ThreadLog};
 use light_base::{Cell, Memory};
 use machine::{Inputs, Limits, Program, RunReport};
 use std::alloc::Global;
-use std::thread::{Threads, join};
+use std::thread::Threads;
 use tagged_words::{Hand, Words};
-
-// The thread of one hand at most.
-fn run_one<G: Gate>(
-    alloc: Global,
-    words: &Words,
-    mut hands: Vec<Hand>,
-    program: &Program,
-    limits: &Limits,
-    inputs: &Inputs,
-    gate: &G,
-) -> Result<Vec<Finished>, Memory>
-    requires few { length hands.items < 2 }
-    requires ready { All (IsReady words.now program.now) hands.items }
-    requires words { length words.now.start.initial ≡ length program.now.words }
-    requires listed { length inputs.now ≡ length program.now.threads }
-    ensures each { IfOk result (λ all. All (IsDone words.now program.now limits.now inputs.now) all.items) }
-    ensures threads { IfOk result (λ all. map thread_in all.items ≡ map thread_of_hand hands.items) }
-{
-    let mut all = Vec::new(alloc);
-    let Some(hand) = hands.pop() else {
-        return Ok(all);
-    };
-    let list = inputs.threads(usize::from(hand.thread()));
-    let Ok(finished) = run_thread(alloc, words, hand, program, limits, list, gate) else {
-        return Err(Memory);
-    };
-    all.push(finished)?;
-    Ok(all)
-}
-
-// Each hand's thread runs on a worker of its own, by halves of the hands.
-fn run_all<R: Threads + Sync, G: Gate>(
-    rt: &R,
-    alloc: Global,
-    words: &Words,
-    mut hands: Vec<Hand>,
-    program: &Program,
-    limits: &Limits,
-    inputs: &Inputs,
-    gate: &G,
-) -> Result<Vec<Finished>, Memory>
-    requires ready { All (IsReady words.now program.now) hands.items }
-    requires words { length words.now.start.initial ≡ length program.now.words }
-    requires listed { length inputs.now ≡ length program.now.threads }
-    ensures each { IfOk result (λ all. All (IsDone words.now program.now limits.now inputs.now) all.items) }
-    ensures threads { IfOk result (λ all. map thread_in all.items ≡ map thread_of_hand hands.items) }
-{
-    if hands.len() < 2 {
-        return run_one(alloc, words, hands, program, limits, inputs, gate);
-    }
-    let half = hands.len() / 2;
-    let others = hands.split_off(half)?;
-    let (front, back) = join(
-        rt,
-        move || -> Result<Vec<Finished>, Memory>
-            requires { IsSync R.row × IsSync G.row × All (IsReady words.now program.now) hands.items × (length words.now.start.initial ≡ length program.now.words) × (length inputs.now ≡ length program.now.threads) }
-            ensures each { IfOk result (λ all. All (IsDone words.entry.now program.entry.now limits.entry.now inputs.entry.now) all.items) }
-            ensures threads { IfOk result (λ all. map thread_in all.items ≡ map thread_of_hand hands.items) }
-        { run_all(rt, alloc, words, hands, program, limits, inputs, gate) },
-        move || -> Result<Vec<Finished>, Memory>
-            requires { IsSync R.row × IsSync G.row × All (IsReady words.now program.now) others.items × (length words.now.start.initial ≡ length program.now.words) × (length inputs.now ≡ length program.now.threads) }
-            ensures each { IfOk result (λ all. All (IsDone words.entry.now program.entry.now limits.entry.now inputs.entry.now) all.items) }
-            ensures threads { IfOk result (λ all. map thread_in all.items ≡ map thread_of_hand others.items) }
-        { run_all(rt, alloc, words, others, program, limits, inputs, gate) },
-    );
-    let mut all = front?;
-    let mut more = back?;
-    all.append(&mut more)?;
-    Ok(all)
-}
 
 // The parts of threads that have ended, in their order.
 fn parted(
@@ -158,11 +88,39 @@ fn gather(
     recorded(alloc, limits, &cells, logs, reports)
 }
 
-/// Runs a program with its inputs on threads and records it: each thread of the program has a worker of its own, and all of
-/// them share the program's words. What is recorded is that of one whole history of the program, in which the threads'
-/// memory steps follow one another.
+/// Runs a program with its inputs on so many workers and records it: thread t belongs to worker t modulo their number, and a
+/// worker goes round its threads by rising number, `slice` memory steps or a thread's end at a time. All of them share the
+/// program's words. What is recorded is that of one whole history of the program, in which the threads' memory steps
+/// follow one another.
 ///
 /// The gate is passed before each memory step. The digest of the log is 32 zero bytes.
+pub fn record_workers<R: Threads + Sync, G: Gate>(
+    rt: &R,
+    alloc: Global,
+    program: &Program,
+    limits: &Limits,
+    inputs: &Inputs,
+    workers: u8,
+    slice: u32,
+    gate: &G,
+) -> Result<Recorded, Memory>
+    requires listed { length inputs.now ≡ length program.now.threads }
+    requires workers { (1 ≤ workers) × (workers ≤ 15) }
+    requires slice { 1 ≤ slice }
+    ensures { IfOk result (λ recorded. (history : List ℕ) × IsHistory program.now limits.now inputs.now history × (recorded ≡ recorded_of program.now limits.now inputs.now history)) }
+{
+    let threads = program.threads_count() as u8;
+    let (words, hands) = Words::open(alloc, program.words(), threads)?;
+    let groups = dealt(alloc, hands, workers)?;
+    let groups = run_groups(
+        rt, alloc, &words, groups, program, limits, inputs, slice, gate,
+    )?;
+    let all = collected(alloc, groups, workers, threads)?;
+    gather(alloc, words, program, limits, inputs, all)
+}
+
+/// Runs a program with its inputs on threads and records it, as `record_workers` does where each thread of the program has
+/// a worker of its own.
 pub fn record<R: Threads + Sync, G: Gate>(
     rt: &R,
     alloc: Global,
@@ -174,7 +132,6 @@ pub fn record<R: Threads + Sync, G: Gate>(
     requires { length inputs.now ≡ length program.now.threads }
     ensures { IfOk result (λ recorded. (history : List ℕ) × IsHistory program.now limits.now inputs.now history × (recorded ≡ recorded_of program.now limits.now inputs.now history)) }
 {
-    let (words, hands) = Words::open(alloc, program.words(), program.threads_count() as u8)?;
-    let all = run_all(rt, alloc, &words, hands, program, limits, inputs, gate)?;
-    gather(alloc, words, program, limits, inputs, all)
+    let workers = program.threads_count() as u8;
+    record_workers(rt, alloc, program, limits, inputs, workers, u32::MAX, gate)
 }
