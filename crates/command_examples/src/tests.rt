@@ -76,7 +76,7 @@ fn arenas_end_with_all_their_points(rt: HostRuntime) -> Result<(), Fail> {
 fn files_end_too_early(rt: HostRuntime) -> Result<(), Fail> {
     let alloc = rt.alloc();
     for row in &cuts::CUTS {
-        cuts::cut(&rt, alloc, row)?;
+        cuts::cut_short(&rt, alloc, row)?;
     }
     Ok(())
 }

@@ -113,7 +113,7 @@ fn cut_at<R: Abort + Threads + Sync>(
 }
 
 // The command on the file at each length below its own.
-pub fn cut<R: Abort + Threads + Sync>(rt: &R, alloc: Global, row: &Cut) -> Result<(), Fail> {
+pub fn cut_short<R: Abort + Threads + Sync>(rt: &R, alloc: Global, row: &Cut) -> Result<(), Fail> {
     let bytes = bytes_of(alloc, row.cut)?;
     for len in 0..bytes.len() {
         cut_at(rt, alloc, row, &bytes[..len])?;
