@@ -3,11 +3,13 @@
 
 Run it after `make run`, which builds the program:  python3 bench/bad_input.py [path of the program]
 
-It takes small images, inputs, logs of both versions and schedules, and of each file: every prefix; the file with each
+It takes small images, texts, inputs, logs of both versions and schedules, and of each file: every prefix; the file with each
 byte set to 0, to 255 and to one more; with each two neighbouring bytes, and some others, exchanged; and with one byte
-more. The program reads each by a command, and its exit status and its line, or its text, are compared with those of
-the model beside this script (model.py), which is written apart from it. Then logs with changed fields are checked and
-replayed under orders that are shuffled. It prints how many files were tried, and each difference.
+more. Every command that reads such a file reads each of them, and its exit status, its line, its text and what it saved are
+compared with what the model beside this script (model.py), which is written apart from it, says of the same bytes: what is
+recorded must be what the model replays by the log, an order that is found must respect the log, that there is none must be so,
+and a difference must be one that the model finds under an order that respects the log. Then orders that are shuffled are
+checked. It prints how often each command was called, and each answer that is not right.
 """
 
 import os
@@ -49,6 +51,11 @@ SAMPLES = [
     (image([3, 1, 0], [STRAYS, SWAPS, TRIES, ADDS]), [[], [4], [], []], [0, 3, 1, 0, 3, 2, 0, 2, 0]),
 ]
 LIMITS = (40, 60, 12)
+BUDGET = "1000"
+TEXTS = [
+    b".words 2\n.init 1 0x1F\n.thread ; one\nwait: load r1, r0 1\n\tjeq r1 r0 wait\nout r1\n.thread\nset R2 7\nstore r2 r0 1\nhalt\n",
+    b".thread\r\n_a: cas r1 r0 r15 4294967295\nend: jmp 0\nJLT r1 r2 end",
+]
 
 
 def changes(data, rng):
@@ -126,7 +133,11 @@ def expect_upgrade(data):
         return refused(7, "log refused kind %d at %d" % (f.kind, *f.places))
 
 
-def expect_check(log, data):
+def expect_check(log_file, data):
+    try:
+        log = model.read_log(log_file)
+    except model.Fault as f:
+        return refused(7, "log refused kind %d at %d" % (f.kind, *f.places))
     try:
         order = model.read_schedule(data)
     except model.Fault as f:
@@ -144,43 +155,42 @@ def knows(place, words, files):
 
 def rows(rng):
     """Each row: words, files, and a test of what came of them (None where all is right)."""
+    limits = [str(n) for n in LIMITS]
     for data, numbers, order in SAMPLES:
         lists = inputs_file(numbers)
         log, _ = model.record(data, LIMITS, order, numbers)
         saved = model.write_log(log)
-        limits = [str(n) for n in LIMITS]
+        right = model.some_order(log)
+        schedule = model.write_schedule(right)
         for changed in changes(data, rng):
             yield ["run", "i", *limits, "n"], {"i": changed, "n": lists}, answers(expect_run(changed, lists))
+            yield ["record", "i", "l", *limits, "n"], {"i": changed, "n": lists}, records(changed, lists)
+            yield ["list", "i"], {"i": changed}, lists_or(expect_image(changed))
+            yield ["replay", "i", "l", "s", BUDGET], {"i": changed, "l": saved}, replays(changed, saved)
         for changed in changes(lists, rng):
             yield ["run", "i", *limits, "n"], {"i": data, "n": changed}, answers(expect_run(data, changed))
+            yield ["record", "i", "l", *limits, "n"], {"i": data, "n": changed}, records(data, changed)
         for changed in changes(saved, rng):
             yield ["show", "l"], {"l": changed}, answers(expect_show(changed))
-            yield ["replay", "i", "l", "s", "1000"], {"i": data, "l": changed}, replays(data, changed)
+            yield ["check", "l", "s"], {"l": changed, "s": schedule}, answers(expect_check(changed, schedule))
+            yield ["solve", "l", "s", BUDGET], {"l": changed}, solves(changed)
+            yield ["replay", "i", "l", "s", BUDGET], {"i": data, "l": changed}, replays(data, changed)
         for version in (1, 2):
             old = model.write_log(log, version)
             for changed in changes(old, rng):
                 yield ["upgrade", "o", "n"], {"o": changed}, upgrades(expect_upgrade(changed))
-        events = model.events_of(log)
-        right = [e for e in history_events(data, order, numbers) if e in set(events)]
-        for changed in changes(model.write_schedule(right), rng):
-            yield ["check", "l", "s"], {"l": saved, "s": changed}, answers(expect_check(log, changed))
+        for changed in changes(schedule, rng):
+            yield ["check", "l", "s"], {"l": saved, "s": changed}, answers(expect_check(saved, changed))
         for _ in range(300):
             mixed = list(right)
             for _ in range(rng.randint(1, 3)):
                 a, b = rng.sample(range(len(mixed)), 2)
                 mixed[a], mixed[b] = mixed[b], mixed[a]
-            yield ["check", "l", "s"], {"l": saved, "s": model.write_schedule(mixed)}, answers(expect_check(log, model.write_schedule(mixed)))
-
-
-def history_events(data, order, numbers):
-    program = model.read_image(data)
-    memory = [[value, 0] for value in program[0]]
-    threads = model.threads_of(program, LIMITS, numbers)
-    events = []
-    for t in order + list(range(len(threads))) * (LIMITS[0] + 1):
-        if threads[t].step(memory, lambda me: True):
-            events.append(model.tag(t, threads[t].steps))
-    return events
+            mixed = model.write_schedule(mixed)
+            yield ["check", "l", "s"], {"l": saved, "s": mixed}, answers(expect_check(saved, mixed))
+    for text in TEXTS:
+        for changed in changes(text, rng):
+            yield ["asm", "t", "i"], {"t": changed}, assembles
 
 
 def answers(expected):
@@ -199,74 +209,120 @@ def upgrades(expected):
     return judge
 
 
-def replays(data, saved):
-    """Ok has an order that respects the log, under which the replay gives the text; other answers have their cause."""
+def lists_or(refusal):
+    def judge(found):
+        status, out, err, _ = found
+        right = (status, err) == (0, b"") and out.startswith(b".words ") if refusal is None else (status, out, err) == refusal
+        return None if right else (refusal, found)
+    return judge
+
+
+def assembles(found):
+    """An image that is one, or a refusal with a line and a kind."""
+    status, out, err, left = found
+    if status == 0:
+        return None if not out and not err and expect_image(left["i"]) is None else ("an image", found)
+    words = err.split()
+    told = [b"light:", b"text", b"refused", b"line", b"kind"]
+    right = status == 6 and not out and "i" not in left and [words[k] for k in (0, 1, 2, 3, 5)] == told and 1 <= int(words[6]) <= 9
+    return None if right else ("a refusal", found)
+
+
+def records(data, numbers):
+    """The log is that of a history, and the model replays it to the text that was printed."""
+    def judge(found):
+        expected = expect_run(data, numbers)
+        status, out, err, left = found
+        if expected[0]:
+            return None if (status, out, err) == expected and "l" not in left else (expected, found)
+        if (status, err) != (0, b""):
+            return 0, found
+        log = model.read_log(left["l"])
+        order = model.some_order(log)
+        if log.digest != model.hashlib.sha256(data).digest() or order is None:
+            return "no log of this program", found
+        difference, text = model.replay(data, log, order)
+        return None if difference is None and text.encode() == out else ((difference, text), found)
+    return judge
+
+
+def unsolved(log, found):
+    """What is wrong with the answer that there is no order, or that the budget is spent."""
+    status, out, err, left = found
+    if out or "s" in left or err != {9: b"light: no schedule\n", 10: b"light: budget spent\n"}[status]:
+        return "no text and no file", found
+    if status == 9:
+        return None if model.some_order(log) is None else ("an order respects the log", found)
+    return None if model.plain_search(log, int(BUDGET))[1] > int(BUDGET) else ("the budget is enough", found)
+
+
+def order_in(log, left):
+    """The order that was saved; None where it does not respect the log."""
+    order = model.read_schedule(left["s"])
+    return None if model.order_fault(log, order) else order
+
+
+def solves(saved):
     def judge(found):
         status, out, err, left = found
         try:
             log = model.read_log(saved)
         except model.Fault as f:
             expected = refused(7, "log refused kind %d at %d" % (f.kind, *f.places))
-            return None if (status, out, err) == expected else (expected, found)
-        program = model.read_image(data)
-        same = log.digest == model.hashlib.sha256(data).digest() and log.words() == len(program[0]) and len(log.threads) == len(program[1])
-        if not same:
-            expected = refused(8, "wrong program")
-            return None if (status, out, err) == expected else (expected, found)
-        if status == 0:
-            order = model.read_schedule(left["s"])
-            if model.order_fault(log, order):
-                return "the order does not respect the log", found
-            difference, text = model.replay(data, log, order)
-            return None if difference is None and text.encode() == out else ((difference, text), found)
-        if status == 9:
-            return None if no_order(log) else ("an order respects the log", found)
-        if status == 11:
-            return None if not no_order(log) and "s" not in left else ("differs", found)
-        return "status", found
+            return None if (status, out, err) == expected and "s" not in left else (expected, found)
+        if status in (9, 10):
+            return unsolved(log, found)
+        if (status, err) != (0, b""):
+            return 0, found
+        order = order_in(log, left)
+        return None if order is not None and out == b"events %d\n" % len(order) else ("an order", found)
     return judge
 
 
-def no_order(log):
-    """Whether no order respects the log: tried by putting event after event, with what may come next."""
-    events = model.events_of(log)
-    if len(events) > 24:
-        return None
-    lanes = {}
-    for e in events:
-        lanes.setdefault(e >> 28, []).append(e)
-    lanes = list(lanes.values())
-    seen = set()
+def replays(data, saved):
+    """Ok has an order that respects the log, under which the replay gives the text; other answers have their cause."""
+    def judge(found):
+        status, out, err, left = found
+        expected = expect_image(data)
+        try:
+            log = model.read_log(saved)
+        except model.Fault as f:
+            expected = expected or refused(7, "log refused kind %d at %d" % (f.kind, *f.places))
+        if not expected:
+            program = model.read_image(data)
+            same = log.digest == model.hashlib.sha256(data).digest() and log.words() == len(program[0]) and len(log.threads) == len(program[1])
+            expected = None if same else refused(8, "wrong program")
+        if expected:
+            return None if (status, out, err) == expected and "s" not in left else (expected, found)
+        if status in (9, 10):
+            return unsolved(log, found)
+        if status == 11:
+            order = model.some_order(log)
+            if order is None or out or "s" in left:
+                return "no difference", found
+            difference, _ = model.replay(data, log, order)
+            if difference and err == b"light: differs thread %d entry %d\n" % difference[:2]:
+                return None
+            return None if difference and differs_so(data, log, err) else (difference, found)
+        if (status, err) != (0, b""):
+            return 0, found
+        order = order_in(log, left)
+        if order is None:
+            return "the order does not respect the log", found
+        difference, text = model.replay(data, log, order)
+        return None if difference is None and text.encode() == out else ((difference, text), found)
+    return judge
 
-    def go(at, order):
-        if len(order) == len(events):
-            return model.order_fault(log, order) is None
-        if at in seen:
-            return False
-        if not front_is_right(log, order):
-            return False
-        for k, lane in enumerate(lanes):
-            if at[k] < len(lane):
-                if go(at[:k] + (at[k] + 1,) + at[k + 1:], order + [lane[at[k]]]):
-                    return True
-        return False
 
-    return not go(tuple(0 for _ in lanes), [])
-
-
-def front_is_right(log, order):
-    """Whether no rule is broken by the events that stand already."""
-    place = {e: k for k, e in enumerate(order)}
-    far = len(order)
-    at = lambda e: place.get(e, far)
-    entries = model.entries_of(log)
-    for t, word, source, first, last in entries:
-        if source and model.tag(t, first) in place and not at(source) < at(model.tag(t, first)):
-            return False
-        final = log.lasts[word]
-        if source != final and (final == 0 or (final in place and at(model.tag(t, last)) > at(final))):
-            return False
-    return True
+def differs_so(data, log, err):
+    """Whether some order that respects the log has this first difference: of a few thousand that are tried."""
+    rng = random.Random(1)
+    for _ in range(2000):
+        order = model.some_order(log, rng)
+        difference, _ = model.replay(data, log, order)
+        if err == b"light: differs thread %d entry %d\n" % difference[:2]:
+            return True
+    return False
 
 
 def main():
@@ -286,9 +342,9 @@ def main():
             if difference:
                 wrong += 1
                 if wrong <= 20:
-                    print("differs:", words, {name: data.hex() for name, data in files.items()}, difference)
+                    print("wrong:", words, {name: data.hex() for name, data in files.items()}, difference)
     print("tried: " + ", ".join("%s %d" % row for row in sorted(tried.items())))
-    print("differences: %d" % wrong)
+    print("wrong answers: %d" % wrong)
     sys.exit(1 if wrong else 0)
 
 

@@ -475,8 +475,9 @@ def order_fault(log, order):
     return None
 
 
-def some_order(log):
-    """An order that respects the log, or None where there is none: found by what may come next, front after front."""
+def some_order(log, rng=None):
+    """An order that respects the log, or None where there is none: found by what may come next, front after front. With a
+    generator of random numbers it is one or another of them."""
     events, entries = events_of(log), entries_of(log)
     lanes = {}
     for e in events:
@@ -507,7 +508,8 @@ def some_order(log):
             return False
         tried.add(front)
         placed = set(order)
-        for k, lane in enumerate(lanes):
+        for k in rng.sample(range(len(lanes)), len(lanes)) if rng else range(len(lanes)):
+            lane = lanes[k]
             if front[k] < len(lane) and may_come(lane[front[k]], placed):
                 order.append(lane[front[k]])
                 if go(front[:k] + (front[k] + 1,) + front[k + 1:]):

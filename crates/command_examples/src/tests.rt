@@ -5,6 +5,7 @@ use std::test::Fail;
 
 mod arenas;
 mod contents;
+mod cuts;
 mod faults;
 mod histories;
 mod inputs;
@@ -43,7 +44,6 @@ fn commands_end_as_told(rt: HostRuntime) -> Result<(), Fail> {
         inputs::FAULTS.as_slice(),
         logs::SHOWN.as_slice(),
         logs::REFUSED.as_slice(),
-        logs::CUT.as_slice(),
         arenas::FAULTS.as_slice(),
         orders::REFUSED.as_slice(),
         orders::STOPPED.as_slice(),
@@ -68,6 +68,15 @@ fn arenas_end_with_all_their_points(rt: HostRuntime) -> Result<(), Fail> {
         for row in &arenas::ARENAS {
             check(&rt, alloc, row)?;
         }
+    }
+    Ok(())
+}
+
+#[test]
+fn files_end_too_early(rt: HostRuntime) -> Result<(), Fail> {
+    let alloc = rt.alloc();
+    for row in &cuts::CUTS {
+        cuts::cut_short(&rt, alloc, row)?;
     }
     Ok(())
 }

@@ -6,6 +6,7 @@ use machine::{Inputs, Limits, Program, RunReport};
 mod arenas;
 mod graphs;
 mod groups;
+mod growing_logs;
 mod images;
 mod logs;
 mod numbers;

@@ -1,6 +1,6 @@
 // `show` and `upgrade`: logs that are read, and the first faults of other bytes.
 use super::contents::Content;
-use super::recordings::{OWN_WRITE_READ_BYTES, OWN_WRITE_READ_LOG};
+use super::recordings::OWN_WRITE_READ_LOG;
 use super::rows::{DONE, Row};
 
 // The log of a thread that reads what it wrote, in version 1 of the format.
@@ -262,58 +262,6 @@ pub static REFUSED: [Row; 20] = [
         words: "show l",
         files: &[],
         status: "store fault",
-        ..DONE
-    },
-];
-
-// A log that ends too early.
-pub static CUT: [Row; 8] = [
-    Row {
-        words: "show l",
-        files: &[("l", Content::Sized(OWN_WRITE_READ_BYTES, 0))],
-        status: "log refused kind 1 at 0",
-        ..DONE
-    },
-    Row {
-        words: "show l",
-        files: &[("l", Content::Sized(OWN_WRITE_READ_BYTES, 50))],
-        status: "log refused kind 1 at 50",
-        ..DONE
-    },
-    Row {
-        words: "show l",
-        files: &[("l", Content::Sized(OWN_WRITE_READ_BYTES, 51))],
-        status: "log refused kind 1 at 51",
-        ..DONE
-    },
-    Row {
-        words: "show l",
-        files: &[("l", Content::Sized(OWN_WRITE_READ_BYTES, 71))],
-        status: "log refused kind 1 at 71",
-        ..DONE
-    },
-    Row {
-        words: "show l",
-        files: &[("l", Content::Sized(OWN_WRITE_READ_BYTES, 72))],
-        status: "log refused kind 1 at 72",
-        ..DONE
-    },
-    Row {
-        words: "show l",
-        files: &[("l", Content::Sized(OWN_WRITE_READ_BYTES, 75))],
-        status: "log refused kind 1 at 75",
-        ..DONE
-    },
-    Row {
-        words: "show l",
-        files: &[("l", Content::Sized(OWN_WRITE_READ_BYTES, 76))],
-        status: "log refused kind 1 at 76",
-        ..DONE
-    },
-    Row {
-        words: "show l",
-        files: &[("l", Content::Sized(OWN_WRITE_READ_BYTES, 89))],
-        status: "log refused kind 1 at 89",
         ..DONE
     },
 ];

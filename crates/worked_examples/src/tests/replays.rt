@@ -3,6 +3,7 @@
 use super::programs::{lines_of, program_of};
 use dep_log::RunLog;
 use light_base::{Event, Memory, Tag};
+use log_file::{read_log, write_log};
 use machine::{Inputs, Limits, Program};
 use recorder::record_turns;
 use replayer::{Kept, Replay, Replayed, Turned, replay_order};
@@ -270,5 +271,29 @@ fn recorded_programs_are_replayed(rt: HostRuntime) -> Result<(), Fail> {
         let answer = answer_by(&rt, alloc, &program, &log, &order)?;
         assert_eq!(rt; answer.as_slice(), expected.as_slice());
     }
+    Ok(())
+}
+
+// A log that says that the thread took a third step, which read its write too: the turn to that step is short.
+#[test]
+fn turn_past_the_end_is_short(rt: HostRuntime) -> Result<(), Fail> {
+    let alloc = rt.alloc();
+    let program = program_of(&rt, alloc, OWN_WRITE.program)?;
+    let mut bytes = write_log(alloc, &recorded(&rt, alloc, &program, &OWN_WRITE)?)?;
+    assert!(rt; bytes.len() == 90);
+    // The thread's steps, and the last step of its entry.
+    bytes[59] = 3;
+    bytes[89] = 3;
+    let log = read_log(alloc, &bytes).ok().ok_or("this is a log")?;
+    let order = order_of(alloc, "0:1 0:2 0:3")?;
+    let (shorts, answer) = answer_by_turns(&rt, alloc, &program, &log, &order)?;
+    assert_eq!(rt;
+        shorts.as_slice(),
+        [Event { thread: 0, step: 3 }].as_slice()
+    );
+    assert_eq!(rt;
+        answer.as_slice(),
+        b"thread 0 entry 0: entry 0 0:1 2 3, not entry 0 0:1 2 2\n".as_slice()
+    );
     Ok(())
 }
