@@ -11,8 +11,20 @@ use crate::taking::{is_greater_open, is_lesser_open, take_greater, take_lesser};
 use light_base::Memory;
 use order_graph::Graph;
 
-// The most rounds of forcing in a row; each but the last decides a pair, and there are fewer pairs.
-const ROUNDS: u64 = u64::MAX;
+/// As many rounds of forcing as there may be: each but the last decides a pair, and there are fewer pairs.
+pub const ALL_ROUNDS: u64 = u64::MAX;
+
+// Each round looks at all sources. With more of them than these, sides are forced at the start alone.
+const MANY: usize = 8192;
+
+/// How many rounds of forcing may follow each choice.
+pub fn rounds_after<R: Rivals>(rivals: &R) -> u64 {
+    let mut sources: usize = 0;
+    for word in 0..rivals.words() {
+        sources = sources.saturating_add(rivals.sources(word).len());
+    }
+    if sources <= MANY { ALL_ROUNDS } else { 0 }
+}
 
 // Takes the lesser side of a pair whose greater one is shut, where the graph does not imply it. Whether it was taken; none
 // where both are shut.
@@ -245,13 +257,14 @@ fn force_words<R: Rivals>(rivals: &R, graph: &mut Graph) -> Result<Option<bool>,
     Ok(Some(some))
 }
 
-/// Takes each side whose other one is shut, until there is none. False where a pair has both sides shut.
-pub fn force<R: Rivals>(rivals: &R, graph: &mut Graph) -> Result<bool, Memory>
+/// Takes each side whose other one is shut, until there is none, in at most so many rounds. False where a pair has both sides
+/// shut.
+pub fn force<R: Rivals>(rivals: &R, graph: &mut Graph, rounds: u64) -> Result<bool, Memory>
     requires rivals { AreRivals (R.rivalry rivals.now) }
     requires counts { graph.old.counts ≡ (R.rivalry rivals.now).counts }
     ensures { ForcesAll (R.rivalry rivals.now) graph.old result graph.new }
 {
-    for _ in 0..ROUNDS {
+    for _ in 0..rounds {
         let Some(forced) = force_words(rivals, graph)? else {
             return Ok(false);
         };

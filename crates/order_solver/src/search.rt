@@ -8,7 +8,7 @@ ghost use Rattle.order_solver.specs.Begun.{IsBegun};
 ghost use Rattle.order_solver.specs.Frames.{Stacked, TookPair, Chose, WentBack, Explored};
 
 use crate::cursor::{Cursor, first_of, next_to};
-use crate::forcing::force;
+use crate::forcing::{ALL_ROUNDS, force, rounds_after};
 use crate::pairs::next_pair;
 use crate::rivals::Rivals;
 use crate::taking::{take_greater, take_lesser};
@@ -75,12 +75,13 @@ fn go_back<R: Rivals>(
     Ok(None)
 }
 
-// Takes a side of a pair, and then all that is forced. False where that meets a dead end.
+// Takes a side of a pair, and then what is forced. False where that meets a dead end.
 fn choose<R: Rivals>(
     rivals: &R,
     graph: &mut Graph,
     frames: &mut Vec<Frame>,
     at: Cursor,
+    rounds: u64,
 ) -> Result<bool, Memory>
     requires rivals { AreRivals (R.rivalry rivals.now) }
     requires counts { graph.old.counts ≡ (R.rivalry rivals.now).counts }
@@ -89,7 +90,7 @@ fn choose<R: Rivals>(
     ensures { Chose (R.rivalry rivals.now) at graph.old (reverse frames.old.items) graph.new (reverse frames.new.items) result }
 {
     if take_pair(rivals, graph, frames, at)? {
-        return force(rivals, graph);
+        return force(rivals, graph, rounds);
     }
     Ok(false)
 }
@@ -117,13 +118,14 @@ pub fn explore<R: Rivals>(
 {
     let mut at = first_of(0);
     let mut dead: u32 = 0;
-    let mut stands = force(rivals, graph)?;
+    let rounds = rounds_after(rivals);
+    let mut stands = force(rivals, graph, ALL_ROUNDS)?;
     loop {
         if stands {
             let Some(pair) = next_pair(rivals, graph, at) else {
                 return Ok(Ending::Found);
             };
-            stands = choose(rivals, graph, frames, pair)?;
+            stands = choose(rivals, graph, frames, pair, rounds)?;
             at = next_to(pair);
         } else {
             if frames.is_empty() {
@@ -137,7 +139,7 @@ pub fn explore<R: Rivals>(
                 return Ok(Ending::None);
             };
             at = next;
-            stands = force(rivals, graph)?;
+            stands = force(rivals, graph, rounds)?;
         }
     }
 }
