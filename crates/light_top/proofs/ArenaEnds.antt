@@ -1,12 +1,14 @@
 -- The ends of arenas.
-use Rattle.std.proofs.Common.{◌≡◌, ℕ, ◌<◌, List, length, [], refl, sym, ◌∙◌, ap, subst}
+use Rattle.std.proofs.Common.{◌≡◌, ℕ, ◌*◌, ◌<◌, List, length, [], refl, sym, ◌∙◌, ap, subst}
 use Rattle.std.proofs.lemmas.List.FromFn.{length-map-range_with_len}
 use Rattle.replay_model.specs.Logs.{Log}
 use Rattle.machine.specs.Programs.{ProgramValue}
 use Rattle.history.specs.HistoryLogs.{HistoryEventsRespect}
 use Rattle.constraints.specs.Constraints.{dead}
 use Rattle.recorder.specs.Records.{no_digest}
-use Rattle.arena_samples.specs.Arenas.{arena_of}
+use Rattle.machine.specs.declared.program.Instr.{Instr}
+use Rattle.arena_samples.specs.Draws.{state_after}
+use Rattle.arena_samples.specs.Arenas.{arena_of, thread_code}
 use Rattle.light_top.specs.Arenas.{arena_limits, arena_inputs, arena_log, IsArenaLog, IsArenaEnd, NotEnded}
 use Rattle.light_top.specs.Solving.{NotSolved}
 use Rattle.light_top.specs.declared.status.Status.{Status}
@@ -27,7 +29,7 @@ arena_threads p log is = sym (ap (λ (l : Log). length l.threads) is.told ∙ lo
 
 pub eight_threads : (number : ℕ) → length (arena_of number).threads ≡ 8
 unfolding arena_of
-eight_threads number = length-map-range_with_len _ 0 8
+eight_threads number = length-map-range_with_len {X = List Instr} (λ t. thread_code (state_after number (48 * t))) 0 8
 
 arena_words_count : (number : ℕ) → length (arena_of number).words ≡ 24
 unfolding arena_of

@@ -41,19 +41,19 @@ module _ (command : Command) (files : Files) (task : Task) (is : given command f
   of_task P h = subst (λ (r : Result Task Status). IsOkAnd r P) is (of_files (λ fs. IsOkAnd (given command fs) P) h)
 
 module _ (command : Command) (files : Files) (task : Task) (is : given command files ≡ Ok task) (old new : Outside) (told : old.files ≡ Some files) (none : (output : Output) → Means task output → ⊥) where
-  Answer : Status → Type 0
+  abbrev Answer : Status → Type 0
   Answer s = (IsFailure s × Fails task s) ⊎ IsExcused old.sound s
 
   early : (s : Status) → EndsEarly command old new s → Answer s
   early status.StoreFault h =
-      inr (inr (refl, λ sound. not_refused command files task is (Some files) refl status.StoreFault (subst (λ (fs : Option Files). IfSome fs (λ f. IsTrue old.sound → given command f ≡ Err status.StoreFault)) told h.1.0 sound)))
+      inr (inr (refl, λ sound. not_refused command files task is (Some files) refl status.StoreFault (subst (λ (fs : Option Files). IfSome fs (λ f. IsTrue old.sound → given command f ≡ Err status.StoreFault)) told h.1 sound)))
   early status.Memory h = inr (inl refl)
-  early s h = absurd (not_refused command files task is old.files told s h.1.0)
+  early s h = absurd (not_refused command files task is old.files told s h.1)
 
   answered : (s : Status) → Ends command old new s → Answer s
   answered s (inl h) = early s h
   answered s (inr (inl late)) = absurd (none late.output (of_task command files task is old.files told (λ (t : Task). Means t late.output) late.meant))
-  answered s (inr (inr h)) = inl (h.0, of_task command files task is old.files told (λ (t : Task). Fails t s) h.1.0)
+  answered s (inr (inr h)) = inl (h.0, of_task command files task is old.files told (λ (t : Task). Fails t s) h.1)
 
 -- where the files are told, this is so of them
 pub each_file : (all : Option Files) (P : Files → Type 0) → ((fs : Files) → all ≡ Some fs → P fs) → IfSome all P

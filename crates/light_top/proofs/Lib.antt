@@ -5,3 +5,4 @@ pub mod Sizes
 pub mod Prints
 pub mod Replaying
 pub mod ArenaEnds
+pub mod Pieces

@@ -56,7 +56,7 @@ module _ (fit : HistoryRunsFit) (respect : HistoryEventsRespect) (files : Files)
     early : (s : Status) → EndsEarly (command.Replay image name schedule budget) old new s → Ending old new s
     early status.StoreFault h = h.0
     early status.Memory h = tt
-    early s h = absurd (not_refused (command.Replay image name schedule budget) files wanted is_given old.files told s h.1.0)
+    early s h = absurd (not_refused (command.Replay image name schedule budget) files wanted is_given old.files told s h.1)
 
     delivered : (s : Status) (output : Output) → IsReplayed had.loaded.program log schedule output → Delivered output old new s → Ending old new s
     delivered status.Ok output is done = (
@@ -83,7 +83,7 @@ module _ (fit : HistoryRunsFit) (respect : HistoryEventsRespect) (files : Files)
     ended : (s : Status) → Ends (command.Replay image name schedule budget) old new s → Ending old new s
     ended s (inl h) = early s h
     ended s (inr (inl late)) = delivered s late.output (of_task (command.Replay image name schedule budget) files wanted is_given old.files told (λ (t : Task). Means t late.output) late.meant).1 late.delivered
-    ended s (inr (inr h)) = undone s h.0 (of_task (command.Replay image name schedule budget) files wanted is_given old.files told (λ (t : Task). Fails t s) h.1.0) h.1.1
+    ended s (inr (inr h)) = undone s h.0 (of_task (command.Replay image name schedule budget) files wanted is_given old.files told (λ (t : Task). Fails t s) h.1) h.2
 
 pub replayed : HistoryRunsFit → HistoryEventsRespect → (command : Command) (old new : Outside) (s : Status) → Ends command old new s → Replays command old new s
 replayed fit respect (command.Replay image name schedule budget) old new s ends =

@@ -59,7 +59,6 @@ fn last_values(alloc: Global, program: &Program, log: &RunLog) -> Result<Vec<u32
     }
 }
 
-#[tactic(auto, using(crate::proofs::ArenaEnds::eight_threads, crate::proofs::ArenaEnds::arena_values, crate::proofs::ArenaEnds::of_number))]
 /// Records the arena of a number on threads, replays the log, and tells of the end.
 pub fn play_arena<R: Threads + Sync, G: Gate>(
     rt: &R,
@@ -72,7 +71,10 @@ pub fn play_arena<R: Threads + Sync, G: Gate>(
 {
     let program = arena(alloc, number)?;
     let log = record_arena(rt, alloc, gate, &program)?;
-    let values = last_values(alloc, &program, &log)?;
+    let values = match last_values(alloc, &program, &log) {
+        Ok(values) => values,
+        Err(status) => return Err(status),
+    };
     let text = summary(alloc, number, &values)?;
     Ok(Bytes::of(text))
 }

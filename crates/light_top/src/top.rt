@@ -35,8 +35,35 @@ fn carry_out<R: Threads + Sync, S: Store, K: Sink, G: Gate>(
     deliver(store, out, &output)
 }
 
+// Carries a command out, and says what follows from how it ended.
+#[tactic(auto, using(crate::proofs::Ending::not_undone, crate::proofs::Ending::declined))]
+fn obey<R: Threads + Sync, S: Store, K: Sink, G: Gate>(
+    rt: &R,
+    alloc: Global,
+    store: &mut S,
+    out: &mut K,
+    gate: &G,
+    command: Command<'_>,
+) -> Status
+    ensures ends { Ends command.entry (outside S.files S.sound S.faults K.taken K.faults store.old out.old)
+        (outside S.files S.sound S.faults K.taken K.faults store.new out.new) result }
+    ensures records { Records command.entry (outside S.files S.sound S.faults K.taken K.faults store.old out.old)
+        (outside S.files S.sound S.faults K.taken K.faults store.new out.new) result }
+    ensures replays { Replays command.entry (outside S.files S.sound S.faults K.taken K.faults store.old out.old)
+        (outside S.files S.sound S.faults K.taken K.faults store.new out.new) result }
+    ensures answers { IfSome (S.files store.old) (λ files. Answers command.entry files (S.sound store.old) result) }
+    ensures declines { IfSome (S.files store.old) (λ files. Declines command.entry files (S.sound store.old) result) }
+    ensures complete { CanBeDone command.entry (outside S.files S.sound S.faults K.taken K.faults store.old out.old)
+        (outside S.files S.sound S.faults K.taken K.faults store.new out.new) → (result ≡ Status.Ok) ⊎ (result ≡ Status.Memory) }
+{
+    history_log_law();
+    match carry_out(rt, alloc, store, out, gate, command) {
+        Ok(()) => Status::Ok,
+        Err(status) => status,
+    }
+}
+
 /// Does what the words say. Where it runs threads, each of them passes the gate before each of its memory steps.
-#[tactic(auto, using(crate::proofs::Ending::not_undone, crate::proofs::Ending::declined, crate::proofs::Headline::recorded, crate::proofs::Replaying::replayed))]
 pub fn light<R: Threads + Sync, S: Store, K: Sink, G: Gate>(
     rt: &R,
     alloc: Global,
@@ -73,12 +100,8 @@ pub fn light<R: Threads + Sync, S: Store, K: Sink, G: Gate>(
     ensures store_fault { result ≡ Status.StoreFault → Rose (S.faults store.old) (S.faults store.new) }
     ensures sink_fault { result ≡ Status.SinkFault → Rose (K.faults out.old) (K.faults out.new) }
 {
-    history_log_law();
     match read_command(words) {
-        Some(command) => match carry_out(rt, alloc, store, out, gate, command) {
-            Ok(()) => Status::Ok,
-            Err(status) => status,
-        },
+        Some(command) => obey(rt, alloc, store, out, gate, command),
         None => Status::Usage,
     }
 }

@@ -16,5 +16,5 @@ replay_order-requires-clause-threads c = arena_threads c.args.program.now c.args
 pub returns-clause-ok : goal.returns-clause-ok
 returns-clause-ok c =
     let again = subst (IsHistoryAgain c.args.program.now arena_limits arena_inputs c.requires.history) c.in-Same.is
-        (c.in_ok-values.ensures.history (subst (Respects c.args.log.now) (sym c.as_slice.ensures) c.in-Ok.ensures.ok.respects) arena_limits arena_inputs no_digest c.requires.history c.requires.whole c.requires.told) in
+    (c.in_ok-values.ensures.history (subst (Respects c.args.log.now) (sym c.as_slice.ensures) c.in-Ok.ensures.ok.respects) arena_limits arena_inputs no_digest c.requires.history c.requires.whole c.requires.told) in
     record { history = c.requires.history; whole = c.requires.whole; told = again.1 }

@@ -8,8 +8,8 @@ returns-in_ok-text_of-in-Same-clause-ok c =
     let exact = subst (IsExact c.args.program.now c.args.log.now) c.in-Same.is (c.in_ok-reports.ensures.exact c.requires.order) in
     record {
       runs = exact.0;
-      fits = exact.1.0;
-      told = cc (c.of.ensures, c.in_ok-text_of-in-Same.ensures, c.deref.ensures.value, c.deref-in-Same.ensures.value, exact.1.1.0, exact.1.1.1);
+      fits = exact.1;
+      told = cc (c.of.ensures, c.in_ok-text_of-in-Same.ensures, c.deref.ensures.value, c.deref-in-Same.ensures.value, exact.2, exact.3);
       again = λ limits inputs digest history whole told.
           let same = subst (IsHistoryAgain c.args.program.now limits inputs history) c.in-Same.is (c.in_ok-reports.ensures.history c.requires.order limits inputs digest history whole told) in
           cc (c.of.ensures, c.in_ok-text_of-in-Same.ensures, c.deref.ensures.value, c.deref-in-Same.ensures.value, same.0, same.1);
