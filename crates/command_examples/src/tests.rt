@@ -42,6 +42,18 @@ fn commands_end_as_told(rt: HostRuntime) -> Result<(), Fail> {
         inputs::TAKEN.as_slice(),
         inputs::REFUSED.as_slice(),
         inputs::FAULTS.as_slice(),
+    ] {
+        for row in table {
+            check(&rt, alloc, row)?;
+        }
+    }
+    Ok(())
+}
+
+#[test]
+fn commands_of_logs_end_as_told(rt: HostRuntime) -> Result<(), Fail> {
+    let alloc = rt.alloc();
+    for table in [
         logs::SHOWN.as_slice(),
         logs::REFUSED.as_slice(),
         arenas::FAULTS.as_slice(),

@@ -9,7 +9,7 @@ use Rattle.recorder.specs.Records.{no_digest}
 use Rattle.machine.specs.declared.program.Instr.{Instr}
 use Rattle.arena_samples.specs.Draws.{state_after}
 use Rattle.arena_samples.specs.Arenas.{arena_of, thread_code}
-use Rattle.light_top.specs.Arenas.{arena_limits, arena_inputs, arena_log, IsArenaLog, IsArenaEnd, NotEnded}
+use Rattle.light_top.specs.Arenas.{arena_limits, arena_inputs, IsArenaLog, IsArenaEnd, NotEnded}
 use Rattle.light_top.specs.Solving.{NotSolved}
 use Rattle.light_top.specs.declared.status.Status.{Status}
 use Rattle.light_top.specs.declared.status.Status.TheVariants as status

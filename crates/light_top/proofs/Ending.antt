@@ -7,7 +7,7 @@ use Rattle.light_top.specs.Given.{◌>>=◌, numbers_in, matched, inputs_in, giv
 use Rattle.light_top.specs.Tasks.{Means, Fails, CanSucceed}
 use Rattle.light_top.specs.Outside.{Outside}
 use Rattle.light_top.specs.Statuses.{IsFailure}
-use Rattle.light_top.specs.Ends.{EndsEarly, EndsLate, EndsUndone, Ends, IsExcused, Declines, CanBeDone}
+use Rattle.light_top.specs.Ends.{EndsEarly, EndsUndone, Ends, IsExcused, Declines, CanBeDone}
 use Rattle.light_top.specs.declared.words.Command.{Command}
 use Rattle.light_top.specs.declared.task.Task.{Task}
 use Rattle.light_top.specs.declared.status.Status.{Status}

@@ -1,23 +1,20 @@
 -- The promise of replaying follows from how a command ended.
-use Rattle.std.proofs.Common.{◌≡◌, ℕ, ◌<◌, true, List, length, Option, None, Some, Result, Ok, Err, IfSome, IsOkAnd, inl, inr, ◌⊎◌, refl, sym, ◌∙◌, ap, subst, cond}
+use Rattle.std.proofs.Common.{◌≡◌, ℕ, List, Option, Some, Result, Ok, Err, inl, inr, refl, ◌∙◌, ap, subst, cond}
 use Rattle.sha2.specs.Sha256.{sha256}
 use Rattle.light_base.specs.FileMap.{Files}
-use Rattle.light_base.specs.declared.tag.Event.{Event}
 use Rattle.replay_model.specs.Logs.{Log}
-use Rattle.history.specs.HistoryLogs.{HistoryRunsFit, HistoryEventsRespect, log_of_history}
-use Rattle.machine.specs.Runs.{world_after}
+use Rattle.history.specs.HistoryLogs.{HistoryRunsFit, HistoryEventsRespect}
 use Rattle.light_top.specs.Images.{ImageValue}
 use Rattle.light_top.specs.Logs.{logged_print, image_print}
-use Rattle.light_top.specs.Prints.{same_print}
-use Rattle.light_top.specs.Given.{◌>>=◌, image_in, log_in, of_program, given}
-use Rattle.light_top.specs.Statuses.{IsFailure, IsRefusal}
+use Rattle.light_top.specs.Given.{◌>>=◌, log_in, of_program, given}
+use Rattle.light_top.specs.Statuses.{IsFailure}
 use Rattle.light_top.specs.Outputs.{Output, Saved}
 use Rattle.light_top.specs.Outside.{Outside, after}
 use Rattle.transcript.specs.Transcripts.{transcript_of}
 use Rattle.light_top.specs.Delivery.{Delivered}
 use Rattle.light_top.specs.Solving.{IsReplayed, Unreplayed}
 use Rattle.light_top.specs.Tasks.{Means, Fails}
-use Rattle.light_top.specs.Ends.{EndsEarly, EndsLate, EndsUndone, Ends}
+use Rattle.light_top.specs.Ends.{EndsEarly, Ends}
 use Rattle.light_top.specs.Headline.{HasHistory, log_had, EndsAgain, Replays}
 use Rattle.light_top.specs.declared.words.Command.{Command}
 use Rattle.light_top.specs.declared.words.Command.TheVariants as command

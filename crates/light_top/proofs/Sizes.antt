@@ -1,5 +1,5 @@
 -- The log of a history has a tag for each word, and a log for each thread.
-use Rattle.std.proofs.Common.{◌≡◌, ℕ, ◌+◌, List, [], ◌∷◌, length, suc, refl, sym, ◌∙◌, ap}
+use Rattle.std.proofs.Common.{◌≡◌, ℕ, ◌+◌, List, [], ◌∷◌, length, suc, refl, ◌∙◌, ap}
 use Rattle.std.proofs.lemmas.List.{length-map}
 use Rattle.replay_model.specs.Steps.{Step}
 use Rattle.replay_model.specs.Threads.{Threads}

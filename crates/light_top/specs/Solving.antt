@@ -19,7 +19,7 @@ use Rattle.replayer.specs.Differences.{IsFirstDifference}
 use Rattle.replayer.specs.Verdicts.{log_found, reports_of_runs}
 use Rattle.log_file.specs.Schedules.{schedule_text}
 use Rattle.transcript.specs.Transcripts.{transcript, transcript_of}
-use Rattle.light_top.specs.Outputs.{Output, Saved, printed_and_saved}
+use Rattle.light_top.specs.Outputs.{Output, Saved}
 use Rattle.light_top.specs.Statuses.{IsFailure}
 use Rattle.light_top.specs.declared.status.Status.{Status}
 use Rattle.light_top.specs.declared.status.Status.TheVariants as status

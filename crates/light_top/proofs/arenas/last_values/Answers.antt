@@ -1,4 +1,4 @@
-use Rattle.std.proofs.Common.{◌≡◌, subst, sym}
+use Rattle.std.proofs.Common.{subst, sym}
 use Rattle.replay_model.specs.Orders.{Respects}
 use Rattle.recorder.specs.Records.{no_digest}
 use Rattle.replayer.specs.Verdicts.{IsHistoryAgain}

@@ -1,4 +1,4 @@
-use Rattle.std.proofs.Common.{◌≡◌, length, ap, ◌∙◌}
+use Rattle.std.proofs.Common.{length, ap, ◌∙◌}
 use Rattle.machine.specs.Programs.{ProgramValue}
 use Rattle.light_top.proofs.ArenaEnds.{eight_threads, arena_values, of_number}
 use Rattle.light_top.proofs.arenas.play_arena.Goals as goal

@@ -1,4 +1,4 @@
-use Rattle.std.proofs.Common.{◌≡◌, subst}
+use Rattle.std.proofs.Common.{subst}
 use Rattle.replayer.specs.Replays.{replay_by}
 use Rattle.replayer.specs.Verdicts.{IsVerdict, IsExact, IsHistoryAgain}
 use Rattle.light_top.proofs.solving.replay_text.Goals as goal

@@ -1,4 +1,4 @@
-use Rattle.std.proofs.Common.{◌≡◌, Result, subst}
+use Rattle.std.proofs.Common.{Result, subst}
 use Rattle.light_top.specs.Statuses.{status_of}
 use Rattle.light_top.specs.Outside.{outside}
 use Rattle.light_top.specs.Ends.{Ends}
