@@ -138,7 +138,9 @@ fn a_group_takes_turns(rt: HostRuntime) -> Result<(), Fail> {
     let inputs = Inputs::of(lists).ok_or("these are inputs")?;
     assert_eq!(rt; (program.threads_count(), program.words().len()), (2, 1));
     let (words, hands) = Words::open(alloc, program.words(), 2)?;
-    match run_group(alloc, &words, hands, &program, &limits, &inputs, 1, &OpenGate) {
+    match run_group(
+        alloc, &words, hands, &program, &limits, &inputs, 1, &OpenGate,
+    ) {
         Ok(all) => {
             let [first, second] = all.as_slice() else {
                 return Err("two threads".into());
@@ -159,7 +161,9 @@ fn no_hands_are_a_group(rt: HostRuntime) -> Result<(), Fail> {
     assert_eq!(rt; (program.threads_count(), program.words().len()), (2, 1));
     let (words, _) = Words::open(alloc, program.words(), 2)?;
     let none = Vec::new(alloc);
-    match run_group(alloc, &words, none, &program, &limits, &inputs, 1, &OpenGate) {
+    match run_group(
+        alloc, &words, none, &program, &limits, &inputs, 1, &OpenGate,
+    ) {
         Ok(all) => {
             assert!(rt; all.is_empty());
             Ok(())
