@@ -84,6 +84,22 @@ fn arenas_end_with_all_their_points(rt: HostRuntime) -> Result<(), Fail> {
     Ok(())
 }
 
+// With fewer workers than threads a log is a log like any other.
+#[test]
+fn arenas_on_fewer_workers_are_replayed(rt: HostRuntime) -> Result<(), Fail> {
+    let alloc = rt.alloc();
+    for number in [0, 7, 4_294_967_295] {
+        for words in [
+            "record i l 1000000 10000000 16384 3 7",
+            "record i l 1000000 10000000 16384 1 1",
+            "record i l 1000000 10000000 16384 15 1000",
+        ] {
+            arenas::record_and_replay(&rt, alloc, number, words)?;
+        }
+    }
+    Ok(())
+}
+
 #[test]
 fn files_end_too_early(rt: HostRuntime) -> Result<(), Fail> {
     let alloc = rt.alloc();

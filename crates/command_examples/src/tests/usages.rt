@@ -14,7 +14,7 @@ pub const NO_COMMAND: Row = Row {
 };
 
 // With one space between two words.
-pub static USAGES: [&str; 62] = [
+pub static USAGES: [&str; 67] = [
     "",
     "run",
     "run i 07 1 1",
@@ -28,6 +28,11 @@ pub static USAGES: [&str; 62] = [
     "record i l 1 01 1",
     "record i l 1 1 1 ",
     "record i l 1 1 1 a b",
+    "record i l 1 1 1 0 1",
+    "record i l 1 1 1 1 0",
+    "record i l 1 1 1 16 1",
+    "record i l 1 1 1 1 268435456",
+    "record i l 1 1 1 1 1 n n",
     "record i l 1 1",
     "list ",
     "list",
