@@ -81,6 +81,7 @@ LIBRARY = r"""
 #include <errno.h>
 #include <stdatomic.h>
 #include <stdlib.h>
+#include <sys/syscall.h>
 #include <unistd.h>
 
 static atomic_long requests;
@@ -129,6 +130,12 @@ __attribute__((destructor)) static void told(void) {
     long n = atomic_load(&requests), k = sizeof text;
     do { text[--k] = '0' + n % 10; n /= 10; } while (n);
     (void)!write(atoi(count), text + k, sizeof text - k);
+}
+/* The program ends so, past all destructors. */
+void _exit(int status) {
+    told();
+    syscall(SYS_exit_group, status);
+    __builtin_unreachable();
 }
 """
 
@@ -207,9 +214,12 @@ def is_right(words, done, saved, log, transcript):
     return words[0] != "check" or done.stdout == b"respects\n"
 
 
-def is_fine(done, right, after, good, free):
-    """Whether a command from which memory was kept ended as it may."""
+def is_fine(words, done, right, after, good, log, transcript):
+    """Whether a command from which memory was kept ended as it may. Where a guess found no memory, another order may be found."""
+    free = words[0] in FREE
     if done.returncode == right.returncode:
+        if words[0] in ("solve", "replay"):
+            return is_right(words, done, after, log, transcript)
         return free or (done.stdout == right.stdout and after == good)
     whole = all(data == b"before" or data == good[name] or free for name, data in after.items())
     return done.returncode == 70 and whole and (free or right.stdout.startswith(done.stdout))
@@ -241,7 +251,7 @@ def main():
                             write(folder, s, b"before")
                         done, _ = call(folder, words, library, n, last)
                         tried += 1
-                        if not is_fine(done, right, contents(folder, saved), good, words[0] in FREE):
+                        if not is_fine(words, done, right, contents(folder, saved), good, log, transcript):
                             wrong += 1
                             print("wrong:", name, words, "request", n, "to", last, done.returncode, done.stdout[-60:], done.stderr[-60:])
                 print("%s, %s: %d requests" % (name, " ".join(words), count), flush=True)
