@@ -1,5 +1,5 @@
 // `record`: the log that is saved and the transcript that is printed. The digests are those of another program.
-use super::contents::{Content, LOST_UPDATE, OWN_WRITE_READ, SMALLEST, SMALLEST_TEXT};
+use super::contents::{Content, LOST_UPDATE, OWN_WRITE_READ, SMALLEST, SMALLEST_TEXT, TWO_FLAGS};
 use super::rows::{DONE, Row};
 
 // The log of the smallest program under limits of 10.
@@ -27,7 +27,7 @@ const BAD_ADDRESS_LOG: Content = Content::Hex(
 );
 
 // Programs that are recorded.
-pub static RECORDED: [Row; 4] = [
+pub static RECORDED: [Row; 6] = [
     Row {
         words: "record i l 10 10 10",
         files: &[("i", SMALLEST)],
@@ -56,6 +56,23 @@ pub static RECORDED: [Row; 4] = [
         files: &[("i", BAD_ADDRESS)],
         text: Content::Text("thread 0 bad-address 4096 steps 0 instr 0/"),
         after: &[("l", BAD_ADDRESS_LOG)],
+        ..DONE
+    },
+    // One worker, on which the threads take turns of one step, and of two.
+    Row {
+        words: "record i l 100 100 100 1 1",
+        files: &[("i", TWO_FLAGS)],
+        text: Content::Text(
+            "thread 0 halted steps 2 instr 4/thread 1 halted steps 2 instr 4/word 0 1/word 1 1/",
+        ),
+        ..DONE
+    },
+    Row {
+        words: "record i l 100 100 100 1 2",
+        files: &[("i", TWO_FLAGS)],
+        text: Content::Text(
+            "thread 0 halted steps 3 instr 6/thread 1 halted steps 2 instr 4/word 0 1/word 1 1/",
+        ),
         ..DONE
     },
 ];
