@@ -12,3 +12,7 @@ pub mod Lines
 pub mod Guessed
 pub mod OfOrders
 pub mod Forced
+pub mod Rooms
+pub mod Spending
+pub mod Memories
+pub mod Costs

@@ -1,6 +1,6 @@
 -- The order of a graph's nodes is a row of them.
 use Rattle.std.proofs.Common.{◌≡◌, ℕ, ◌<◌, ◌≤◌, List, [], length, get_or, take, ◌∙◌, ap, subst, arith}
-use Rattle.std.specs.Prelude.{All, Contains, Ok, sum}
+use Rattle.std.specs.Prelude.{All, Contains, IfSome, Ok, Option, Some, sum}
 use Rattle.std.proofs.lemmas.List.{length-take-le, get_or-take, get_or_default}
 use Rattle.std.proofs.lemmas.List.Elements.{All-from_get_or}
 use Rattle.plain_search.specs.declared.Edge.{Edge}
@@ -40,3 +40,6 @@ found-line r g line c solve o ends = record {
 pub explored-found : (r : Rivalry) (budget : ℕ) (ending : Ending) (new : GraphState) → Explored r budget (Ok ending) new → ending ≡ Found →
     (new.counts ≡ r.counts) × ((rank : ℕ → ℕ) → Holds rank (edges_of new) → Solves (problem_in r) rank)
 explored-found r budget ending new x e = subst (λ (z : Ending). Explored r budget (Ok z) new) e x
+
+pub if_some : {V : Type 0} (o : Option V) (v : V) (P : V → Type 0) → o ≡ Some v → IfSome o P → P v
+if_some {V} o v P e h = subst (λ (x : Option V). IfSome x P) e h

@@ -2,14 +2,15 @@
 use Rattle.std.proofs.Common.{◌≡◌, ℕ, ◌^◌, ◌<◌, ◌≤◌, true, false, eqb, Some, List, length, get_or, map, refl, sym, ◌∙◌, ap, subst, arith, inl, inr, ◌⊎◌}
 use Rattle.std.specs.Prelude.{Contains, All}
 use Rattle.std.specs.List.{flat_map, list_any, IsDistinct}
-use Rattle.std.proofs.lemmas.Bool.{cases_Bool, both_ways, eqb-true}
+use Rattle.std.proofs.lemmas.Bool.{cases_Bool, both_ways, eqb-true, false_from_ne_true}
 use Rattle.std.proofs.lemmas.Cmp.{nat_eq_equiv}
 use Rattle.std.proofs.lemmas.List.{length-map, length-append, get_or-map}
 use Rattle.std.proofs.lemmas.List.Concat.{length-flat_map}
 use Rattle.std.proofs.lemmas.List.Sums.{sum_by-le}
 use Rattle.std.proofs.lemmas.List.FromFn.{length-range_with_len}
-use Rattle.std.proofs.lemmas.List.Elements.{Contains-get_or}
+use Rattle.std.proofs.lemmas.List.Elements.{Contains-get_or, All-contains}
 use Rattle.std.proofs.lemmas.Map.Keys.{IsDistinct-from_apart}
+use Rattle.std.proofs.lemmas.Map.Steps.{length-le_from_distinct_below}
 use Rattle.std.proofs.lemmas.Map.Made.{length-le_from_is_member}
 use Rattle.std.proofs.lemmas.Map.Views.{list_any-from_Contains, Contains-from_any}
 use Rattle.light_base.specs.Tags.{HasTag, bits_of, writer_of}
@@ -23,7 +24,7 @@ use Rattle.replay_model.specs.Orders.{Respects}
 use Rattle.replay_model.specs.WellFormed.{IsWellFormed}
 use Rattle.constraints.specs.Positions.{thread_numbers, event_list, event_at, no_event}
 use Rattle.constraints.specs.Building.{mentioned_by, mentioned_tags}
-use Rattle.constraints.specs.Constraints.{pairs_of, problem_of_log, impossible, dead}
+use Rattle.constraints.specs.Constraints.{pairs_of, problem_of_log, impossible, dead, side_edges_of}
 use Rattle.constraints.specs.Laws.{IsLine}
 use Rattle.constraints.proofs.Members.{of_map, in_map, of_range}
 use Rattle.constraints.proofs.Ranked.{All-from}
@@ -33,6 +34,7 @@ use Rattle.constraints.proofs.Shapes.{counts-sum}
 use Rattle.constraints.proofs.Sorting.{lines_are_orders, rankings_are_orders}
 use Rattle.order_solver.specs.Rivals.{AreRivals, problem_in}
 use Rattle.order_solver.specs.Logs.{rivalry_of}
+use Rattle.order_solver.specs.Rooms.{side_edges_in}
 use Rattle.order_solver.specs.Findings.{IsLineOf}
 use Rattle.order_solver.specs.Solving.{IsFound}
 use Rattle.order_solver.proofs.OfLogs.{are_rivals}
@@ -156,3 +158,18 @@ never_found log formed i order r = both_ways (impossible log) ((rankings_are_ord
 -- the dead ends are those of the problem, where the log is not impossible
 pub spent_found : (log : Log) (budget : ℕ) → impossible log ≡ false → budget < (outcome (problem_in (rivalry_of log))).dead → budget < dead log
 spent_found log budget possible l = rw possible (subst (λ p. budget < (outcome p).dead) (same_problem log) l)
+
+-- what the pairs may cost is what those of the log may
+pub same_costs : (log : Log) → side_edges_in (rivalry_of log) ≡ side_edges_of log
+unfolding pairs_of
+same_costs log = refl
+
+-- such a row is no longer than the list of events
+pub line_short : (log : Log) (line : List ℕ) → IsLineOf (rivalry_of log) line → length line ≤ length (event_list log)
+line_short log line h = length-le_from_distinct_below line (length (event_list log)) distinct (λ q m. All-contains (λ p. p < length (event_list log)) line q within (Contains-from_any eqb-true q line m))
+  where
+    within : All (λ p. p < length (event_list log)) line
+    within = subst (λ (n : ℕ). All (λ p. p < n) line) (counts-sum log) h.row.within
+
+    distinct : IsDistinct eqb line
+    distinct = IsDistinct-from_apart eqb line (λ i j d l m. false_from_ne_true _ (λ t. h.row.once i j d l m (eqb-true (get_or line i d) (get_or line j d) t)))

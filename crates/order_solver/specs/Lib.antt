@@ -3,7 +3,9 @@ pub mod Cursors
 pub mod Sides
 pub mod Begun
 pub mod Frames
+pub mod Rooms
 pub mod Findings
+pub mod Prepared
 pub mod Logs
 pub mod Readings
 pub mod Solving

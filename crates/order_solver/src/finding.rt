@@ -1,13 +1,16 @@
-// A search from beginning to end.
-ghost use Rattle.std.specs.Prelude.{◌≡◌, ◌<◌};
+// A search from beginning to end, which takes its memory first.
+ghost use Rattle.std.specs.Prelude.{◌≡◌, ◌+◌, ◌^◌, ◌<◌, ◌≤◌, IfOk, OnErr, sum};
 ghost use Rattle.order_solver.specs.Rivals.{AreRivals};
+ghost use Rattle.order_solver.specs.Rooms.{side_edges_in};
 ghost use Rattle.order_solver.specs.Findings.{Finds};
+ghost use Rattle.order_solver.specs.Prepared.{IsPrepared, most_side_edges, HasSpare};
 
 use crate::begin::begin;
-use crate::guessing::guess_line;
 use crate::rivals::Rivals;
-use crate::search::{Ending, explore};
+use crate::search::{Ending, Frame, explore};
+use crate::side_costs::side_edges_in;
 use light_base::Memory;
+use order_graph::Graph;
 use std::alloc::Global;
 
 /// What a search found.
@@ -21,35 +24,86 @@ pub enum Finding {
     Spent,
 }
 
-// The exact search.
-fn search_line<R: Rivals>(alloc: Global, rivals: &R, budget: u32) -> Result<Finding, Memory>
-    requires { AreRivals (R.rivalry rivals.now) }
-    ensures { Finds (R.rivalry rivals.now) budget result }
+/// The most edges of pairs' longer sides for which a search takes its memory before it begins.
+pub const MOST_SIDE_EDGES: u32 = 4_194_304;
+
+/// What a search works with: the graph with which it begins, where the edges that have to hold have no cycle, and memory for
+/// its frames and for a row of all nodes.
+#[derive(Drop)]
+pub struct Prepared {
+    pub graph: Option<Graph>,
+    pub frames: Vec<Frame>,
+    pub line: Vec<u32>,
+}
+
+// The number of nodes.
+fn nodes_of(counts: &[u32]) -> usize
+    requires { sum counts.now < 2 ^ 32 }
+    ensures { result ≡ sum counts.now }
 {
-    let mut graph = match begin(alloc, rivals)? {
-        Some(graph) => graph,
-        None => return Ok(Finding::None),
+    let mut nodes: usize = 0;
+    for count in counts {
+        nodes += *count as usize;
+    }
+    nodes
+}
+
+// The graph with memory for so many more edges.
+fn with_spare(mut graph: Graph, adds: u32) -> Result<Graph, Memory>
+    ensures { IfOk result (λ g. HasSpare adds graph g) }
+{
+    graph.reserve(adds)?;
+    Ok(graph)
+}
+
+/// Takes the memory of a whole search: where the pairs' longer sides have no more than `MOST_SIDE_EDGES` edges in all, none is
+/// wanted afterwards.
+pub fn prepare<R: Rivals>(alloc: Global, rivals: &R) -> Result<Prepared, Memory>
+    requires { AreRivals (R.rivalry rivals.now) }
+    ensures { IfOk result (λ prepared. IsPrepared (R.rivalry rivals.now) prepared) }
+{
+    let adds = match side_edges_in(rivals, MOST_SIDE_EDGES) {
+        Some(adds) => adds,
+        None => 0,
     };
-    let mut frames = Vec::new(alloc);
+    let graph = match begin(alloc, rivals)? {
+        Some(graph) => Some(with_spare(graph, adds)?),
+        None => None,
+    };
+    Ok(Prepared {
+        graph,
+        frames: Vec::with_capacity(alloc, adds as usize)?,
+        line: Vec::with_capacity(alloc, nodes_of(rivals.counts()))?,
+    })
+}
+
+/// The exact search, with at most so many dead ends. It wants memory only where the pairs' longer sides have more than
+/// `MOST_SIDE_EDGES` edges in all.
+pub fn search_line<R: Rivals>(
+    rivals: &R,
+    prepared: Prepared,
+    budget: u32,
+) -> Result<Finding, Memory>
+    requires rivals { AreRivals (R.rivalry rivals.now) }
+    requires prepared { IsPrepared (R.rivalry rivals.now) prepared }
+    ensures finds { Finds (R.rivalry rivals.now) budget result }
+    ensures memory { OnErr result (most_side_edges < side_edges_in (R.rivalry rivals.now)) }
+{
+    let Prepared {
+        graph,
+        mut frames,
+        mut line,
+    } = prepared;
+    let Some(mut graph) = graph else {
+        return Ok(Finding::None);
+    };
     match explore(rivals, &mut graph, &mut frames, budget)? {
         Ending::Found => {
             graph.ends_law();
-            Ok(Finding::Line(graph.order()?))
+            graph.fill_order(&mut line);
+            Ok(Finding::Line(line))
         }
         Ending::None => Ok(Finding::None),
         Ending::Spent => Ok(Finding::Spent),
-    }
-}
-
-/// Finds a row of all nodes along which the edges rise, and of each two sources of a word one comes first with its lasts. A
-/// guess that the judge lets stand is one; where there is none, or no memory for it, an exact search decides. `Spent` comes
-/// only where the plain search meets more dead ends than the budget.
-pub fn find_line<R: Rivals>(alloc: Global, rivals: &R, budget: u32) -> Result<Finding, Memory>
-    requires { AreRivals (R.rivalry rivals.now) }
-    ensures { Finds (R.rivalry rivals.now) budget result }
-{
-    match guess_line(alloc, rivals) {
-        Ok(Some(line)) => Ok(Finding::Line(line)),
-        _ => search_line(alloc, rivals, budget),
     }
 }

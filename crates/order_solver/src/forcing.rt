@@ -38,6 +38,7 @@ fn force_lesser<R: Rivals>(
     requires at { IsAt (R.rivalry rivals.now) at }
     ensures { Forces (R.rivalry rivals.now) graph.old result graph.new }
 {
+    graph.acyclic_law();
     if is_greater_open(rivals, graph, at) {
         return Ok(Some(false));
     }
@@ -63,6 +64,7 @@ fn force_greater<R: Rivals>(
     requires at { IsAt (R.rivalry rivals.now) at }
     ensures { Forces (R.rivalry rivals.now) graph.old result graph.new }
 {
+    graph.acyclic_law();
     if is_lesser_open(rivals, graph, at) {
         return Ok(Some(false));
     }

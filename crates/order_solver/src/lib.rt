@@ -13,10 +13,12 @@ mod problems;
 mod rivals;
 mod rows;
 mod search;
+mod side_costs;
 mod sides;
 mod solving;
 mod taking;
 
-pub use finding::{Finding, find_line};
+pub use finding::{Finding, MOST_SIDE_EDGES, Prepared, prepare, search_line};
+pub use guessing::guess_line;
 pub use rivals::Rivals;
-pub use solving::{Answer, solve};
+pub use solving::{Answer, Search, side_edges, solve};

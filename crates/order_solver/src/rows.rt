@@ -1,10 +1,11 @@
 // The pairs of one source with later ones, and which of them the graph settles.
-ghost use Rattle.std.specs.Prelude.{◌≡◌, ℕ, ◌+◌, ◌<◌, ◌≤◌, ◌↔◌, IsTrue, MatchOption, length};
+ghost use Rattle.std.specs.Prelude.{◌≡◌, ℕ, ◌+◌, ◌<◌, ◌≤◌, ◌↔◌, IsTrue, IfSome, MatchOption, length};
 ghost use Rattle.plain_search.specs.Edges.{Implies};
 ghost use Rattle.order_graph.specs.Graphs.{edges_of};
-ghost use Rattle.order_solver.specs.Rivals.{AreRivals, source_at};
+ghost use Rattle.order_solver.specs.Rivals.{AreRivals, source_at, pair_in};
 ghost use Rattle.constraints.specs.Constraints.{edges_to};
 ghost use Rattle.order_solver.specs.Cursors.{IsRooted, IsRun, AreBefore, AreSettled};
+ghost use Rattle.order_solver.specs.Rooms.{IsDecided};
 
 use crate::cursor::Cursor;
 use crate::rivals::Rivals;
@@ -45,6 +46,7 @@ fn first_after<R: Rivals>(
     ensures low { from ≤ result }
     ensures high { result ≤ end }
     ensures before { AreBefore (R.rivalry rivals.now) (edges_of graph.now) word source from result }
+    ensures last { result < end → Implies (edges_of graph.now) (edges_to ((R.rivalry rivals.now).lasts word (source_at (R.rivalry rivals.now) word result)) (source_at (R.rivalry rivals.now) word source)) → ⊥ }
 {
     let mut low = from;
     let mut high = end;
@@ -73,8 +75,9 @@ fn next_in_run<R: Rivals>(
     requires word { word < (R.rivalry rivals.now).words }
     requires source { source < from }
     requires run { IsRun (R.rivalry rivals.now) (edges_of graph.now) word from end }
-    ensures { MatchOption result (AreSettled (R.rivalry rivals.now) (edges_of graph.now) word source from end)
+    ensures settled { MatchOption result (AreSettled (R.rivalry rivals.now) (edges_of graph.now) word source from end)
         (λ k. (from ≤ k) × (k < end) × AreSettled (R.rivalry rivals.now) (edges_of graph.now) word source from k) }
+    ensures undecided { IfSome result (λ k. IsDecided (edges_of graph.now) (pair_in (R.rivalry rivals.now) word (source_at (R.rivalry rivals.now) word source) (source_at (R.rivalry rivals.now) word k)) → ⊥) }
 {
     if from >= end {
         return None;
@@ -96,9 +99,10 @@ pub fn next_in_row<R: Rivals>(rivals: &R, graph: &Graph, at: Cursor) -> Option<u
     requires rooted { IsRooted (R.rivalry rivals.now) (edges_of graph.now) }
     requires word { at.word < (R.rivalry rivals.now).words }
     requires lesser { at.lesser < at.greater }
-    ensures { MatchOption result
+    ensures settled { MatchOption result
         (AreSettled (R.rivalry rivals.now) (edges_of graph.now) at.word at.lesser at.greater (length ((R.rivalry rivals.now).sources at.word)))
         (λ k. (at.greater ≤ k) × (k < length ((R.rivalry rivals.now).sources at.word)) × AreSettled (R.rivalry rivals.now) (edges_of graph.now) at.word at.lesser at.greater k) }
+    ensures undecided { IfSome result (λ k. IsDecided (edges_of graph.now) (pair_in (R.rivalry rivals.now) at.word (source_at (R.rivalry rivals.now) at.word at.lesser) (source_at (R.rivalry rivals.now) at.word k)) → ⊥) }
 {
     let mut from = at.greater;
     for thread in 0..rivals.counts().len() {

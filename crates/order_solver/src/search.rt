@@ -1,11 +1,12 @@
 // The search: pair after pair, the lesser side first. It has no recursion and no list of pairs.
-ghost use Rattle.std.specs.Prelude.{◌≡◌, ℕ, ◌+◌, ◌<◌, ◌≤◌, MatchOption, List, [], length, reverse};
+ghost use Rattle.std.specs.Prelude.{◌≡◌, ℕ, ◌+◌, ◌<◌, ◌≤◌, MatchOption, OnOk, OnErr, List, [], length, reverse, vec_capacity};
 ghost use Rattle.order_graph.specs.Graphs.{edges_of, nodes_of};
 ghost use Rattle.order_solver.specs.Rivals.{AreRivals, source_at, pair_in};
 ghost use Rattle.order_solver.specs.Cursors.{IsAt};
 ghost use Rattle.order_solver.specs.Sides.{Takes};
 ghost use Rattle.order_solver.specs.Begun.{IsBegun};
-ghost use Rattle.order_solver.specs.Frames.{Stacked, TookPair, Chose, WentBack, Explored};
+ghost use Rattle.order_solver.specs.Frames.{pair_at, Stacked, TookPair, Chose, WentBack, Explored};
+ghost use Rattle.order_solver.specs.Rooms.{IsDecided, side_edges_in, KeepsMemory, LacksMemory};
 
 use crate::cursor::{Cursor, first_of, next_to};
 use crate::forcing::{ALL_ROUNDS, force, rounds_after};
@@ -45,7 +46,10 @@ fn take_pair<R: Rivals>(
     requires counts { graph.old.counts ≡ (R.rivalry rivals.now).counts }
     requires stacked { Stacked (R.rivalry rivals.now) graph.old.added (reverse frames.old.items) }
     requires at { IsAt (R.rivalry rivals.now) at }
-    ensures { TookPair (R.rivalry rivals.now) at graph.old (reverse frames.old.items) graph.new (reverse frames.new.items) result }
+    requires undecided { IsDecided (edges_of graph.old) (pair_at (R.rivalry rivals.now) at) → ⊥ }
+    ensures took { TookPair (R.rivalry rivals.now) at graph.old (reverse frames.old.items) graph.new (reverse frames.new.items) result }
+    ensures room { OnOk result (KeepsMemory (R.rivalry rivals.now) graph.old (reverse frames.old.items) (vec_capacity frames.old) graph.new (reverse frames.new.items) (vec_capacity frames.new)) }
+    ensures memory { OnErr result (LacksMemory (R.rivalry rivals.now) graph.old (reverse frames.old.items) (vec_capacity frames.old)) }
 {
     let mark = graph.mark();
     if take_lesser(rivals, graph, at)? {
@@ -64,7 +68,9 @@ fn go_back<R: Rivals>(
     requires rivals { AreRivals (R.rivalry rivals.now) }
     requires counts { graph.old.counts ≡ (R.rivalry rivals.now).counts }
     requires stacked { Stacked (R.rivalry rivals.now) graph.old.added (reverse frames.old.items) }
-    ensures { WentBack (R.rivalry rivals.now) graph.old (reverse frames.old.items) graph.new (reverse frames.new.items) result }
+    ensures went { WentBack (R.rivalry rivals.now) graph.old (reverse frames.old.items) graph.new (reverse frames.new.items) result }
+    ensures room { OnOk result (KeepsMemory (R.rivalry rivals.now) graph.old (reverse frames.old.items) (vec_capacity frames.old) graph.new (reverse frames.new.items) (vec_capacity frames.new)) }
+    ensures memory { OnErr result (LacksMemory (R.rivalry rivals.now) graph.old (reverse frames.old.items) (vec_capacity frames.old)) }
 {
     while let Some(frame) = frames.pop() {
         graph.undo(frame.mark);
@@ -87,7 +93,10 @@ fn choose<R: Rivals>(
     requires counts { graph.old.counts ≡ (R.rivalry rivals.now).counts }
     requires stacked { Stacked (R.rivalry rivals.now) graph.old.added (reverse frames.old.items) }
     requires at { IsAt (R.rivalry rivals.now) at }
-    ensures { Chose (R.rivalry rivals.now) at graph.old (reverse frames.old.items) graph.new (reverse frames.new.items) result }
+    requires undecided { IsDecided (edges_of graph.old) (pair_at (R.rivalry rivals.now) at) → ⊥ }
+    ensures chose { Chose (R.rivalry rivals.now) at graph.old (reverse frames.old.items) graph.new (reverse frames.new.items) result }
+    ensures room { OnOk result (KeepsMemory (R.rivalry rivals.now) graph.old (reverse frames.old.items) (vec_capacity frames.old) graph.new (reverse frames.new.items) (vec_capacity frames.new)) }
+    ensures memory { OnErr result (LacksMemory (R.rivalry rivals.now) graph.old (reverse frames.old.items) (vec_capacity frames.old)) }
 {
     if take_pair(rivals, graph, frames, at)? {
         return force(rivals, graph, rounds);
@@ -114,7 +123,8 @@ pub fn explore<R: Rivals>(
     requires rivals { AreRivals (R.rivalry rivals.now) }
     requires begun { IsBegun (R.rivalry rivals.now) graph.old }
     requires empty { frames.old.items ≡ [] }
-    ensures { Explored (R.rivalry rivals.now) budget result graph.new }
+    ensures explored { Explored (R.rivalry rivals.now) budget result graph.new }
+    ensures memory { OnErr result (side_edges_in (R.rivalry rivals.now) ≤ graph.old.spare → side_edges_in (R.rivalry rivals.now) ≤ vec_capacity frames.old → ⊥) }
 {
     let mut at = first_of(0);
     let mut dead: u32 = 0;

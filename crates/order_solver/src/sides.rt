@@ -1,9 +1,10 @@
 // The sides of pairs on a graph: edges from the lasts of one source to another source.
-ghost use Rattle.std.specs.Prelude.{◌≡◌, ℕ, ◌<◌, ◌++◌, ◌↔◌, IsTrue, true, All};
+ghost use Rattle.std.specs.Prelude.{◌≡◌, ℕ, ◌<◌, ◌++◌, ◌↔◌, IsTrue, true, All, OnOk, OnErr, length};
 ghost use Rattle.plain_search.specs.Edges.{is_acyclic, Holds, Implies};
 ghost use Rattle.order_graph.specs.Graphs.{edges_of, nodes_of};
 ghost use Rattle.constraints.specs.Constraints.{edges_to};
 ghost use Rattle.order_solver.specs.Sides.{Narrows, Takes};
+ghost use Rattle.order_solver.specs.Rooms.{SpendsAtMost};
 
 use light_base::Memory;
 use order_graph::{Added, Graph};
@@ -42,7 +43,9 @@ pub fn is_implied(graph: &Graph, lasts: &[u32], source: u32) -> bool
 pub fn add_edge(graph: &mut Graph, from: u32, to: u32) -> Result<Added, Memory>
     requires from { from < nodes_of graph.old }
     requires to { to < nodes_of graph.old }
-    ensures { Narrows (λ rank. rank from < rank to) graph.old result graph.new }
+    ensures narrows { Narrows (λ rank. rank from < rank to) graph.old result graph.new }
+    ensures spends { OnOk result (SpendsAtMost 1 graph.old graph.new) }
+    ensures memory { OnErr result (graph.old.spare < 1) }
 {
     if graph.before(from, to) {
         return Ok(Added::In);
@@ -54,7 +57,9 @@ pub fn add_edge(graph: &mut Graph, from: u32, to: u32) -> Result<Added, Memory>
 pub fn add_side(graph: &mut Graph, lasts: &[u32], source: u32) -> Result<Added, Memory>
     requires source { source < nodes_of graph.old }
     requires lasts { All (λ l. l < nodes_of graph.old) lasts.now }
-    ensures { Narrows (λ rank. Holds rank (edges_to lasts.now source)) graph.old result graph.new }
+    ensures narrows { Narrows (λ rank. Holds rank (edges_to lasts.now source)) graph.old result graph.new }
+    ensures spends { OnOk result (SpendsAtMost (length (edges_to lasts.now source)) graph.old graph.new) }
+    ensures memory { OnErr result (graph.old.spare < length (edges_to lasts.now source)) }
 {
     let mut left = lasts.len();
     while left > 0 {
@@ -73,7 +78,9 @@ pub fn add_side(graph: &mut Graph, lasts: &[u32], source: u32) -> Result<Added, 
 pub fn take_side(graph: &mut Graph, lasts: &[u32], source: u32) -> Result<bool, Memory>
     requires source { source < nodes_of graph.old }
     requires lasts { All (λ l. l < nodes_of graph.old) lasts.now }
-    ensures { Takes (edges_to lasts.now source) graph.old result graph.new }
+    ensures takes { Takes (edges_to lasts.now source) graph.old result graph.new }
+    ensures spends { OnOk result (SpendsAtMost (length (edges_to lasts.now source)) graph.old graph.new) }
+    ensures memory { OnErr result (graph.old.spare < length (edges_to lasts.now source)) }
 {
     if !is_open(graph, lasts, source) {
         return Ok(false);

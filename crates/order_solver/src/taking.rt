@@ -1,11 +1,12 @@
 // The sides of a pair on a graph.
-ghost use Rattle.std.specs.Prelude.{◌≡◌, ◌++◌};
+ghost use Rattle.std.specs.Prelude.{◌≡◌, ◌<◌, ◌++◌, OnOk, OnErr, length};
 ghost use Rattle.plain_search.specs.Edges.{is_acyclic};
 ghost use Rattle.order_graph.specs.Graphs.{edges_of};
 ghost use Rattle.order_solver.specs.Rivals.{AreRivals};
 ghost use Rattle.order_solver.specs.Cursors.{IsAt};
 ghost use Rattle.order_solver.specs.Sides.{Takes};
 ghost use Rattle.order_solver.specs.Frames.{pair_at};
+ghost use Rattle.order_solver.specs.Rooms.{SpendsAtMost};
 
 use crate::cursor::Cursor;
 use crate::rivals::Rivals;
@@ -40,7 +41,9 @@ pub fn take_lesser<R: Rivals>(rivals: &R, graph: &mut Graph, at: Cursor) -> Resu
     requires rivals { AreRivals (R.rivalry rivals.now) }
     requires counts { graph.old.counts ≡ (R.rivalry rivals.now).counts }
     requires at { IsAt (R.rivalry rivals.now) at }
-    ensures { Takes (pair_at (R.rivalry rivals.now) at).lesser graph.old result graph.new }
+    ensures takes { Takes (pair_at (R.rivalry rivals.now) at).lesser graph.old result graph.new }
+    ensures spends { OnOk result (SpendsAtMost (length (pair_at (R.rivalry rivals.now) at).lesser) graph.old graph.new) }
+    ensures memory { OnErr result (graph.old.spare < length (pair_at (R.rivalry rivals.now) at).lesser) }
 {
     let source = rivals.sources(at.word)[at.greater as usize];
     take_side(graph, rivals.lasts(at.word, at.lesser), source)
@@ -51,7 +54,9 @@ pub fn take_greater<R: Rivals>(rivals: &R, graph: &mut Graph, at: Cursor) -> Res
     requires rivals { AreRivals (R.rivalry rivals.now) }
     requires counts { graph.old.counts ≡ (R.rivalry rivals.now).counts }
     requires at { IsAt (R.rivalry rivals.now) at }
-    ensures { Takes (pair_at (R.rivalry rivals.now) at).greater graph.old result graph.new }
+    ensures takes { Takes (pair_at (R.rivalry rivals.now) at).greater graph.old result graph.new }
+    ensures spends { OnOk result (SpendsAtMost (length (pair_at (R.rivalry rivals.now) at).greater) graph.old graph.new) }
+    ensures memory { OnErr result (graph.old.spare < length (pair_at (R.rivalry rivals.now) at).greater) }
 {
     let source = rivals.sources(at.word)[at.lesser as usize];
     take_side(graph, rivals.lasts(at.word, at.greater), source)

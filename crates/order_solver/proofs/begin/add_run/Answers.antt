@@ -23,7 +23,7 @@ returns-in-Cycle g c =
     let r = g.R.Rivals.rivalry c.args.rivals.now in
     let k = c.loop-at.at in
     narrower-cycle (λ rank. ChainedTo r rank c.args.word c.args.from c.args.end k) (λ rank. Holds rank (edges_to c.lasts.result.now (get_or c.sources.result.now (k + 1) 0))) (λ rank. Chained r rank c.args.word c.args.from c.args.end)
-    c.args.graph.now c.loop-at.graph c.add_side.new.graph c.in_ok-add_side.field-0 c.loop-at.invariant c.in_ok-add_side.ensures c.in-Cycle.is
+    c.args.graph.now c.loop-at.graph c.add_side.new.graph c.in_ok-add_side.field-0 c.loop-at.invariant c.in_ok-add_side.ensures.narrows c.in-Cycle.is
     (λ rank h. (
       λ n a b d. h n a d,
       side-is rank (r.lasts c.args.word (source_at r c.args.word k)) c.lasts.result.now (source_at r c.args.word (k + 1)) (get_or c.sources.result.now (k + 1) 0) (sym c.lasts.ensures)
@@ -35,7 +35,7 @@ loop-at-preserved g c =
     let r = g.R.Rivals.rivalry c.args.rivals.now in
     let k = c.loop-at.at in
     narrower-step (λ rank. ChainedTo r rank c.args.word c.args.from c.args.end k) (λ rank. Holds rank (edges_to c.lasts.result.now (get_or c.sources.result.now (k + 1) 0))) (λ rank. ChainedTo r rank c.args.word c.args.from c.args.end (k + 1))
-    c.args.graph.now c.loop-at.graph c.add_side.new.graph c.in_ok-add_side.field-0 c.loop-at.invariant c.in_ok-add_side.ensures c.in-In.is
+    c.args.graph.now c.loop-at.graph c.add_side.new.graph c.in_ok-add_side.field-0 c.loop-at.invariant c.in_ok-add_side.ensures.narrows c.in-In.is
     (λ rank p q. chained-more r rank c.args.word c.args.from c.args.end k p (side-is rank c.lasts.result.now (r.lasts c.args.word (source_at r c.args.word k)) (get_or c.sources.result.now (k + 1) 0) (source_at r c.args.word (k + 1))
     c.lasts.ensures (ap (λ (xs : List ℕ). get_or xs (k + 1) 0) c.sources.ensures) q))
     (λ rank h. (

@@ -1,5 +1,5 @@
 use Rattle.std.proofs.Common.{arith}
-use Rattle.order_solver.proofs.Forced.{forces_goes, forces_none}
+use Rattle.order_solver.proofs.Forced.{forces_goes, forces_none, lacks-after, forces-err}
 use Rattle.order_solver.proofs.Beginning.{run-within}
 use Rattle.order_solver.proofs.Windows.{counted}
 use Rattle.order_solver.proofs.forcing.force_row.Goals as goal
@@ -18,3 +18,7 @@ loop-thread-preserved g c = record {
   from = (let a = c.loop-thread.invariant.from in let e = c.max-from.ensures in grind (arith, a, e));
   on = forces_goes (g.R.Rivals.rivalry c.args.rivals.now) c.args.graph.now c.loop-thread.graph c.force_run.new.graph c.in_ok-forced.field-0 c.in-Some.forced c.loop-thread.invariant.on c.in_ok-forced.ensures c.in-Some.is;
 }
+
+pub returns-in_err-forced : goal.returns-in_err-forced
+returns-in_err-forced g c = forces-err (g.R.Rivals.rivalry c.args.rivals.now) c.args.graph.now c.force_run.new.graph _ c.from_residual.ensures.0
+    (lacks-after (g.R.Rivals.rivalry c.args.rivals.now) c.args.graph.now c.loop-thread.graph c.loop-thread.invariant.on c.in_err-forced.ensures)

@@ -11,9 +11,9 @@ loop-at-init g c = record { place = c.requires.place; passes = passes-same (edge
 pub next_in_row-requires-clause-lesser : goal.next_in_row-requires-clause-lesser
 next_in_row-requires-clause-lesser g c = c.loop-at.invariant.place.lesser
 
-pub returns-in-Some : goal.returns-in-Some
-returns-in-Some g c =
-    let s = c.in-Some.ensures in
+pub returns-in-Some-clause-passes : goal.returns-in-Some-clause-passes
+returns-in-Some-clause-passes g c =
+    let s = c.in-Some.ensures.settled in
     let t = c.loop-at-test.true in
     let e = c.words.ensures in
     found-at (g.R.Rivals.rivalry c.args.rivals.now) (edges_of c.args.graph.now) c.args.from c.loop-at.at c.in-Some.greater (omega (arith, t, e)) c.loop-at.invariant.place c.loop-at.invariant.passes s.0 s.1 s.2
@@ -33,11 +33,11 @@ loop-at-preserved g c =
       place = subst (λ (n : Cursor). IsPlace (g.R.Rivals.rivalry c.args.rivals.now) n) (sym c.next_row-at.ensures)
           (rows-fall (g.R.Rivals.rivalry c.args.rivals.now) c.loop-at.at (omega (arith, t, e)) c.loop-at.invariant.place).1;
       passes = subst (λ (n : Cursor). Passes (edges_of c.args.graph.now) (pairs_at (g.R.Rivals.rivalry c.args.rivals.now) c.args.from) (pairs_at (g.R.Rivals.rivalry c.args.rivals.now) n)) (sym c.next_row-at.ensures)
-          (row-over (g.R.Rivals.rivalry c.args.rivals.now) (edges_of c.args.graph.now) c.args.from c.loop-at.at (omega (arith, t, e)) c.loop-at.invariant.place c.loop-at.invariant.passes c.in_default.ensures);
+          (row-over (g.R.Rivals.rivalry c.args.rivals.now) (edges_of c.args.graph.now) c.args.from c.loop-at.at (omega (arith, t, e)) c.loop-at.invariant.place c.loop-at.invariant.passes c.in_default.ensures.settled);
     }
 
-pub returns : goal.returns
-returns g c =
+pub returns-clause-passes : goal.returns-clause-passes
+returns-clause-passes g c =
     let t = c.loop-at-test.false in
     let e = c.words.ensures in
     passes-on (edges_of c.args.graph.now) (pairs_at (g.R.Rivals.rivalry c.args.rivals.now) c.args.from) (pairs_at (g.R.Rivals.rivalry c.args.rivals.now) c.loop-at.at) [] c.loop-at.invariant.passes

@@ -13,9 +13,9 @@ run g c =
 pub next_in_run-requires-clause-run : goal.next_in_run-requires-clause-run
 next_in_run-requires-clause-run g c = run g c
 
-pub returns-in-Some : goal.returns-in-Some
-returns-in-Some g c =
-    let s = c.in-Some.ensures in
+pub returns-in-Some-clause-settled : goal.returns-in-Some-clause-settled
+returns-in-Some-clause-settled g c =
+    let s = c.in-Some.ensures.settled in
     let a = s.0 in
     let b = s.1 in
     let w =
