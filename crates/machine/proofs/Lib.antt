@@ -5,7 +5,6 @@ pub mod Runs
 pub mod Turning
 pub mod Keeps
 pub mod Computing
-pub mod Outs
 pub mod Going
 pub mod Walking
 pub mod Faults

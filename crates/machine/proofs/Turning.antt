@@ -1,6 +1,7 @@
 -- What one turn of a thread means for the run that it is part of.
-use Rattle.std.proofs.Common.{◌≡◌, ℕ, ◌+◌, ◌<◌, ◌≤◌, Bool, List, length, take, sym, ◌∙◌, ap, subst, arith}
-use Rattle.std.specs.Prelude.{slice_get, Some, None, Result, Ok, Err, OnErr}
+use Rattle.std.proofs.Common.{◌≡◌, ℕ, ◌+◌, ◌<◌, ◌≤◌, Bool, true, false, List, length, take, refl, sym, ◌∙◌, ap, subst, arith}
+use Rattle.std.specs.Prelude.{slice_get, Some, None, Result, Ok, Err, OnOk, OnErr, is_err}
+use Rattle.std.proofs.lemmas.Bool.{both_ways}
 use Rattle.std.proofs.lemmas.List.{length_push, length-take, take-take}
 use Rattle.replay_model.specs.declared.Want.{Want}
 use Rattle.machine.specs.declared.program.Instr.{Instr}
@@ -71,3 +72,12 @@ begins-on first middle list a b =
 pub on_err : {T E P : Type 0} (r : Result T E) → P → OnErr r P
 on_err (Ok x) p = tt
 on_err (Err e) p = p
+
+-- what holds of an answer that is one, and of an error that is one
+pub ok_there : {T E : Type 0} (r : Result T E) (P : Type 0) → is_err r ≡ false → OnOk r P → P
+ok_there (Ok x) P e p = p
+ok_there (Err x) P e p = absurd (both_ways true e refl)
+
+pub err_there : {T E : Type 0} (r : Result T E) (P : Type 0) → is_err r ≡ true → OnErr r P → P
+err_there (Ok x) P e p = absurd (both_ways false refl e)
+err_there (Err x) P e p = p

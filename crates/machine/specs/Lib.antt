@@ -1,5 +1,4 @@
 pub mod Programs
-pub mod Outs
 pub mod Inputs
 pub mod Faults
 pub mod Images

@@ -3,7 +3,6 @@ ghost use Rattle.std.specs.Prelude.{◌≡◌, ℕ, ◌+◌, ◌<◌, ◌≤◌,
 ghost use Rattle.replay_model.specs.Steps.{reads, has_ended};
 ghost use Rattle.machine.specs.Programs.{AreLimits, IsCode, code_of};
 ghost use Rattle.machine.specs.Cores.{State, first_state, is_memory, comes_to, ran, run_on, second_wanted, computes, IsState, settled, with_register, told, compared, exchanged, cas_found, pending_want, step_done, took, end_of, report_of, is_store};
-ghost use Rattle.machine.specs.Outs.{puts_out};
 ghost use Rattle.machine.specs.Turns.{bounds_of, moved, rested, IsCourse, NamesRegisters, Turns};
 
 use crate::program::{Instr, Limits, Op, Program};
@@ -433,8 +432,8 @@ impl Core {
         }
     }
 
-    // Runs local instructions up to the next memory step or the end. Where the code puts out nothing, they are run
-    // without a copy of the registers, which a refused output alone needs.
+    // Runs local instructions up to the next memory step or the end, those that only compute or jump in one go. Where an
+    // output is refused all is as before.
     fn run(
         &mut self,
         program: &Program,
@@ -450,16 +449,18 @@ impl Core {
         ensures err { OnErr result (self.new ≡ self.old) }
         ensures memory { OnErr result (length self.old.output < length (run_on (code_of program.now self.old.thread) (length program.now.words) limits.now inputs.now full self.old).output) }
     {
-        if program.puts_out(usize::from(self.thread)) {
-            self.run_on(program, limits, inputs, full)?;
-            return Ok(self.wanted());
-        }
+        let (registers, place, instr) = (self.registers, self.place, self.instr);
         let course = self.course(program, limits, inputs, full);
         let way = course.go_along(&mut self.registers, self.place, self.instr);
         self.place = way.place;
         self.instr = way.instr;
         let Some(i) = way.memory else {
-            self.run_on_quietly(program, limits, inputs, full);
+            if self.run_on(program, limits, inputs, full).is_err() {
+                self.registers = registers;
+                self.place = place;
+                self.instr = instr;
+                return Err(Memory);
+            }
             return Ok(self.wanted());
         };
         let course = self.course(program, limits, inputs, full);
@@ -476,23 +477,6 @@ impl Core {
         match self.pending {
             Some(wanted) => wanted,
             None => unreachable!(),
-        }
-    }
-
-    // The same in steps, where the code puts out nothing.
-    #[cold]
-    fn run_on_quietly(&mut self, program: &Program, limits: &Limits, inputs: &[u32], full: bool)
-        requires thread { self.old.thread < length program.now.threads }
-        requires inputs { length inputs.now ≤ 65536 }
-        requires fresh { self.old.expected ≡ None }
-        requires none { self.old.pending ≡ None }
-        requires quiet { puts_out (code_of program.now self.old.thread) ≡ false }
-        ensures state { self.new ≡ run_on (code_of program.now self.old.thread) (length program.now.words) limits.now inputs.now full self.old }
-        ensures wanted { IsSome self.new.pending }
-    {
-        match self.run_on(program, limits, inputs, full) {
-            Ok(()) => {}
-            Err(Memory) => unreachable!(),
         }
     }
 

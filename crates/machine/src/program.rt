@@ -3,7 +3,6 @@ ghost use Rattle.std.specs.Prelude.{◌≡◌, ◌↔◌, ◌<◌, ◌≤◌, So
 ghost use Rattle.std.specs.List.{list_all};
 ghost use Rattle.machine.specs.Programs.{AreLimits, IsProgram, code_lists, code_of, code_of_op, op_of, uses_a, uses_b, uses_c, uses_imm, jumps, has_registers, has_idle_zero, has_target};
 ghost use Rattle.machine.specs.Cores.{is_memory};
-ghost use Rattle.machine.specs.Outs.{puts_out, AreOuts};
 ghost use Rattle.machine.specs.Faults.{instr_fault, code_fault, codes_fault, program_fault, checked, are_counts, is_short_code};
 
 use crate::image_fault::{ImageFault, ImageKind};
@@ -210,20 +209,17 @@ impl Instr {
 pub struct Program {
     words: Vec<u32>,
     threads: Vec<Vec<Instr>>,
-    // Of each thread whether its code may put out a value.
-    outs: [bool; 15],
 }
 
 impl Model for Program {
-    ghost use Rattle.std.specs.Prelude.{length, map};
+    ghost use Rattle.std.specs.Prelude.{map};
     ghost use Rattle.machine.specs.Programs.{ProgramValue, IsProgram};
-    ghost use Rattle.machine.specs.Outs.{AreOuts};
 
     ghost Value = { ProgramValue };
 
     ghost view = { λ p. record { words = p.words.items; threads = map (λ code. code.items) p.threads.items } };
 
-    ghost invariant = { λ p. IsProgram (record { words = p.words.items; threads = map (λ code. code.items) p.threads.items }) × AreOuts p.outs (length p.threads.items) (map (λ code. code.items) p.threads.items) };
+    ghost invariant = { λ p. IsProgram (record { words = p.words.items; threads = map (λ code. code.items) p.threads.items }) };
 }
 
 impl Program {
@@ -236,14 +232,7 @@ impl Program {
     {
         match fault_of(&words, &threads) {
             Some(fault) => Err(fault),
-            None => {
-                let outs = outs_of(&threads);
-                Ok(Program {
-                    words,
-                    threads,
-                    outs,
-                })
-            }
+            None => Ok(Program { words, threads }),
         }
     }
 
@@ -252,12 +241,7 @@ impl Program {
         requires { IsProgram (record { words = words.items; threads = code_lists threads.items }) }
         ensures { result ≡ record { words = words.items; threads = code_lists threads.items } }
     {
-        let outs = outs_of(&threads);
-        Program {
-            words,
-            threads,
-            outs,
-        }
+        Program { words, threads }
     }
 
     /// The initial values of the words.
@@ -277,14 +261,6 @@ impl Program {
         &self.threads[thread]
     }
 
-    // Whether the code of a thread has an instruction that puts out a value.
-    pub(crate) fn puts_out(&self, thread: usize) -> bool
-        requires { thread < length self.now.threads }
-        ensures { result ≡ puts_out (code_of self.now thread) }
-    {
-        self.outs[thread]
-    }
-
     /// How many threads there are.
     pub fn threads_count(&self) -> usize
         ensures value { result ≡ length self.now.threads }
@@ -301,30 +277,6 @@ impl Program {
     {
         (self.words, self.threads)
     }
-}
-
-// Whether a code has an instruction that puts out a value.
-fn puts_out(code: &[Instr]) -> bool
-    ensures { result ≡ puts_out code.now }
-{
-    for i in code {
-        if i.op == Op::Out {
-            return true;
-        }
-    }
-    false
-}
-
-// Of each thread whether its code has one.
-fn outs_of(threads: &[Vec<Instr>]) -> [bool; 15]
-    requires { length threads.now ≤ 15 }
-    ensures { AreOuts result (length threads.now) (code_lists threads.now) }
-{
-    let mut outs = [false; 15];
-    for (thread, code) in threads.iter().enumerate() {
-        outs[thread] = puts_out(code);
-    }
-    outs
 }
 
 // The first fault of an instruction of a thread's code.

@@ -5,6 +5,7 @@ use Rattle.machine.specs.Cores.{State, IsState, is_memory}
 use Rattle.machine.specs.Turns.{bounds_of, IsCourse}
 use Rattle.machine.specs.contracts.cores.Core.{the_view}
 use Rattle.machine.proofs.Keeps.{instr_at, names_registers, run_on-is_state}
+use Rattle.machine.proofs.Turning.{ok_there, err_there}
 use Rattle.machine.proofs.Walking.{holds_there, walks_to, walked, stops, stopped, same_code}
 use Rattle.machine.proofs.cores.Core.run.Goals as goal
 
@@ -15,10 +16,23 @@ returns-in_default-clause-ok c =
     let course = c.course-course.result in
     let is : IsCourse c.args.program.now c.args.limits.now c.args.inputs.now c.args.full s course =
     subst (λ (x : State). IsCourse c.args.program.now c.args.limits.now c.args.inputs.now c.args.full x course) (sym c.self.view_is) c.course-course.ensures in (
-      c.run_on_quietly.ensures.state ∙
+      (ok_there _ _ (sym c.if-is_err.ensures.value) c.run_on.ensures.ok).0 ∙
           sym (walked c.args.program.now c.args.limits.now c.args.inputs.now c.args.full course c.go_along-way.new.registers way.place way.instr s c.args.self.now c.self.view_is is c.go_along-way.ensures.same),
-      c.wanted-in_default.ensures,
+      c.wanted.ensures,
     )
+
+pub returns-then-is_err-clause-memory : goal.returns-then-is_err-clause-memory
+returns-then-is_err-clause-memory c =
+    let s = the_view c.self.inside in
+    let way = c.go_along-way.result in
+    let course = c.course-course.result in
+    let is : IsCourse c.args.program.now c.args.limits.now c.args.inputs.now c.args.full s course =
+    subst (λ (x : State). IsCourse c.args.program.now c.args.limits.now c.args.inputs.now c.args.full x course) (sym c.self.view_is) c.course-course.ensures in
+    let w = ap (λ (n : State). length n.output)
+    (walked c.args.program.now c.args.limits.now c.args.inputs.now c.args.full course c.go_along-way.new.registers way.place way.instr s c.args.self.now c.self.view_is is c.go_along-way.ensures.same) in
+    let o = ap (λ (n : State). length n.output) c.self.view_is in
+    let m = err_there _ _ (sym c.if-is_err.ensures.value) c.run_on.ensures.memory in
+    omega (arith, w, o, m)
 
 pub memory_step-requires-clause-fields : goal.memory_step-requires-clause-fields
 memory_step-requires-clause-fields c =
