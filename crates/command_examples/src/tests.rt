@@ -16,6 +16,7 @@ mod recordings;
 mod replays;
 mod rows;
 mod runs;
+mod searches;
 mod solves;
 mod statuses;
 mod texts;
@@ -199,4 +200,13 @@ fn threads_are_recorded_side_by_side(rt: HostRuntime) -> Result<(), Fail> {
     assert!(rt; text.as_str().contains("\nthread 1 halted steps "));
     assert!(rt; text.as_str().ends_with("\nword 0 1\nword 1 1\n"));
     Ok(())
+}
+
+#[test]
+fn searches_take_their_memory_first(rt: HostRuntime) -> Result<(), Fail> {
+    let alloc = rt.alloc();
+    for row in &searches::SEARCHED {
+        searches::search(&rt, alloc, row)?;
+    }
+    searches::count_side_edges(&rt, alloc)
 }

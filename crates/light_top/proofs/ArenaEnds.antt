@@ -9,18 +9,19 @@ use Rattle.recorder.specs.Records.{no_digest}
 use Rattle.machine.specs.declared.program.Instr.{Instr}
 use Rattle.arena_samples.specs.Draws.{state_after}
 use Rattle.arena_samples.specs.Arenas.{arena_of, thread_code}
-use Rattle.light_top.specs.Arenas.{arena_limits, arena_inputs, IsArenaLog, IsArenaEnd, NotEnded}
-use Rattle.light_top.specs.Solving.{NotSolved}
+use Rattle.light_top.specs.Arenas.{arena_limits, arena_inputs, IsArenaLog, IsArenaEnd, Endless}
+use Rattle.light_top.specs.Solving.{Unsolved}
+use Rattle.light_top.specs.Statuses.{FailsBy}
 use Rattle.light_top.specs.declared.status.Status.{Status}
 use Rattle.light_top.specs.declared.status.Status.TheVariants as status
 use Rattle.light_top.proofs.Sizes.{log_threads, values_count}
 
 -- why no order was found is why an arena has no end
-pub not_ended : HistoryEventsRespect → (p : ProgramValue) (log : Log) (s : Status) → IsArenaLog p log → NotSolved log 0 s → NotEnded p s
+pub not_ended : HistoryEventsRespect → (p : ProgramValue) (log : Log) (s : Status) → IsArenaLog p log → FailsBy (Unsolved log 0) s → FailsBy (Endless p) s
 not_ended respect p log status.Memory is not = tt
-not_ended respect p log status.Spent is not = (is.history, is.whole, subst (λ (l : Log). 0 < dead l) is.told not.1)
+not_ended respect p log status.Spent is not = (tt, (is.history, is.whole, subst (λ (l : Log). 0 < dead l) is.told not.1))
 not_ended respect p log status.NoSchedule is not =
-    let none = subst (λ (l : Log). NotSolved l 0 status.NoSchedule) is.told not in
+    let none = subst (λ (l : Log). FailsBy (Unsolved l 0) status.NoSchedule) is.told not in
     absurd (none.1 _ (respect p arena_limits arena_inputs no_digest is.history is.whole))
 not_ended respect p log s is not = absurd not.1
 
@@ -39,5 +40,5 @@ pub arena_values : (number : ℕ) (p : ProgramValue) (values : List ℕ) → p �
 arena_values number p values is ended =
     ap length ended.told ∙ values_count p arena_limits arena_inputs [] ended.history ∙ ap (λ (q : ProgramValue). length q.words) is ∙ arena_words_count number
 
-pub of_number : (number : ℕ) (p : ProgramValue) (s : Status) → p ≡ arena_of number → NotEnded p s → NotEnded (arena_of number) s
-of_number number p s is not = subst (λ (q : ProgramValue). NotEnded q s) is not
+pub of_number : (number : ℕ) (p : ProgramValue) (s : Status) → p ≡ arena_of number → FailsBy (Endless p) s → FailsBy (Endless (arena_of number)) s
+of_number number p s is not = subst (λ (q : ProgramValue). FailsBy (Endless q) s) is not

@@ -39,8 +39,7 @@ pub record IsArenaEnd (p : ProgramValue) (values : List ℕ) : Type 0 where
   pub whole : IsArenaHistory p history
   pub told : values ≡ values_of (world_after p arena_limits arena_inputs history)
 
--- why there is no end: the log of some whole history has a dead end, or memory was refused
-abbrev pub NotEnded : ProgramValue → Status → Type 0
-NotEnded p status.Memory = Unit {0}
-NotEnded p status.Spent = (history : List ℕ) × IsArenaHistory p history × (0 < dead (arena_log p history))
-NotEnded p s = ⊥
+-- why there is no end: the log of some whole history has a dead end
+abbrev pub Endless : ProgramValue → Status → Type 0
+Endless p status.Spent = (history : List ℕ) × IsArenaHistory p history × (0 < dead (arena_log p history))
+Endless p s = ⊥

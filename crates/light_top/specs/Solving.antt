@@ -20,7 +20,6 @@ use Rattle.replayer.specs.Verdicts.{log_found, reports_of_runs}
 use Rattle.log_file.specs.Schedules.{schedule_text}
 use Rattle.transcript.specs.Transcripts.{transcript, transcript_of}
 use Rattle.light_top.specs.Outputs.{Output, Saved}
-use Rattle.light_top.specs.Statuses.{IsFailure}
 use Rattle.light_top.specs.declared.status.Status.{Status}
 use Rattle.light_top.specs.declared.status.Status.TheVariants as status
 
@@ -29,11 +28,6 @@ abbrev pub Unsolved : Log → ℕ → Status → Type 0
 Unsolved log budget status.NoSchedule = (order : List Event) → Respects log order → ⊥
 Unsolved log budget status.Spent = budget < dead log
 Unsolved log budget s = ⊥
-
--- or memory was refused
-abbrev pub NotSolved : Log → ℕ → Status → Type 0
-NotSolved log budget status.Memory = Unit {0}
-NotSolved log budget s = IsFailure s × Unsolved log budget s
 
 -- so many events
 abbrev pub events_line : ℕ → List ℕ
@@ -80,21 +74,12 @@ abbrev pub IsDisrespectful : Log → List Event → Status → Type 0
 IsDisrespectful log order (status.Disrespects fault) = (Respects log order → ⊥) × (verdict_of log order ≡ verdict.Fault fault)
 IsDisrespectful log order s = ⊥
 
-abbrev pub NotJudged : Log → List Event → Status → Type 0
-NotJudged log order status.Memory = Unit {0}
-NotJudged log order s = IsFailure s × IsDisrespectful log order s
-
--- why a replay was not the logged run, or memory was refused
-abbrev pub NotReplayed : ProgramValue → Log → Status → Type 0
-NotReplayed p log status.Memory = Unit {0}
-NotReplayed p log (status.Differs difference) = IsFailure (status.Differs difference) × IsUnlike p log difference
-NotReplayed p log s = ⊥
+-- why a replay was not the logged run: no runs fit the log
+abbrev pub Differing : ProgramValue → Log → Status → Type 0
+Differing p log (status.Differs difference) = IsUnlike p log difference
+Differing p log s = ⊥
 
 -- why a log was not replayed: no order was found, or no runs fit it
 abbrev pub Unreplayed : ProgramValue → Log → ℕ → Status → Type 0
 Unreplayed p log budget (status.Differs difference) = IsUnlike p log difference
 Unreplayed p log budget s = Unsolved log budget s
-
-abbrev pub NotReplayedWithin : ProgramValue → Log → ℕ → Status → Type 0
-NotReplayedWithin p log budget status.Memory = Unit {0}
-NotReplayedWithin p log budget s = IsFailure s × Unreplayed p log budget s

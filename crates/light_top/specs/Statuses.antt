@@ -108,6 +108,11 @@ IsFailure (status.Differs difference) = difference.logged ≢ difference.found
 IsFailure (status.Disrespects fault) = Unit {0}
 IsFailure s = ⊥
 
+-- memory was refused, or this is a failure with such a cause
+abbrev pub FailsBy : (Status → Type 0) → Status → Type 0
+FailsBy cause status.Memory = Unit {0}
+FailsBy cause s = IsFailure s × cause s
+
 -- the status of a command that was done, or refused
 abbrev pub status_of : {T : Type 0} → Result T Status → Status
 status_of (Ok _) = status.Ok

@@ -8,7 +8,6 @@ use Rattle.machine.specs.Runs.{rounds_of}
 use Rattle.history.specs.Histories.{IsHistory}
 use Rattle.history.specs.HistoryLogs.{log_of_history}
 use Rattle.replay_model.specs.Orders.{Respects}
-use Rattle.constraints.specs.Constraints.{dead}
 use Rattle.arena_samples.specs.Arenas.{arena_of}
 use Rattle.arena_samples.specs.Summaries.{summary_of}
 use Rattle.log_file.specs.Spelling.{spelling}
@@ -19,12 +18,10 @@ use Rattle.light_top.specs.Images.{ImageValue}
 use Rattle.light_top.specs.Outputs.{Output, printed, printed_and_saved, saved}
 use Rattle.light_top.specs.declared.task.Task.{Task}
 use Rattle.light_top.specs.declared.task.Task.TheVariants as task
-use Rattle.light_top.specs.Statuses.{IsFailure}
 use Rattle.light_top.specs.Logs.{logged_print, image_print}
-use Rattle.light_top.specs.Arenas.{IsArenaHistory, IsArenaEnd, arena_log}
+use Rattle.light_top.specs.Arenas.{IsArenaEnd, Endless}
 use Rattle.light_top.specs.Solving.{Unsolved, Unreplayed, IsDisrespectful, IsSolved, IsReplayed}
 use Rattle.light_top.specs.declared.status.Status.{Status}
-use Rattle.light_top.specs.declared.status.Status.TheVariants as status
 
 -- the inputs have a list for each thread of the program that they are for; an order is that of a file; a log is that of the image's program
 abbrev pub IsMatched : Task → Type 0
@@ -70,14 +67,8 @@ abbrev pub Fails : Task → Status → Type 0
 Fails (task.Check log order) s = IsDisrespectful log order s
 Fails (task.Solve log schedule budget) s = Unsolved log budget s
 Fails (task.Replay image log schedule budget) s = Unreplayed image.program log budget s
--- the log of some whole history of the arena has a dead end
-Fails (task.Arena number) status.Spent = (history : List ℕ) × IsArenaHistory (arena_of number) history × (0 < dead (arena_log (arena_of number) history))
+Fails (task.Arena number) s = Endless (arena_of number) s
 Fails task s = ⊥
-
--- memory was refused, or the task cannot be done
-abbrev pub NotDone : Task → Status → Type 0
-NotDone task status.Memory = Unit {0}
-NotDone task s = IsFailure s × Fails task s
 
 -- no cause stands in the way of the task
 abbrev pub CanSucceed : Task → Type 0

@@ -2,7 +2,8 @@
 ghost use Rattle.std.specs.Prelude.{◌≡◌, ℕ, List, length, IfOk, IfErr};
 ghost use Rattle.arena_samples.specs.Arenas.{arena_of};
 ghost use Rattle.arena_samples.specs.Summaries.{summary_of};
-ghost use Rattle.light_top.specs.Arenas.{arena_limits, IsArenaLog, IsArenaEnd, NotEnded};
+ghost use Rattle.light_top.specs.Arenas.{arena_limits, IsArenaLog, IsArenaEnd, Endless};
+ghost use Rattle.light_top.specs.Statuses.{FailsBy};
 
 use crate::Status;
 use crate::bytes::Bytes;
@@ -46,7 +47,7 @@ fn record_arena<R: Threads + Sync, G: Gate>(
 fn last_values(alloc: Global, program: &Program, log: &RunLog) -> Result<Vec<u32>, Status>
     requires { IsArenaLog program.now log.now }
     ensures ok { IfOk result (λ values. IsArenaEnd program.now values.items) }
-    ensures err { IfErr result (NotEnded program.now) }
+    ensures err { IfErr result (FailsBy (Endless program.now)) }
 {
     history_log_law();
     let order = match find_order(alloc, log, 0) {
@@ -67,7 +68,7 @@ pub fn play_arena<R: Threads + Sync, G: Gate>(
     number: u32,
 ) -> Result<Bytes, Status>
     ensures ok { IfOk result (λ text. (values : List ℕ) × IsArenaEnd (arena_of number) values × (text ≡ summary_of number values)) }
-    ensures err { IfErr result (NotEnded (arena_of number)) }
+    ensures err { IfErr result (FailsBy (Endless (arena_of number))) }
 {
     let program = arena(alloc, number)?;
     let log = record_arena(rt, alloc, gate, &program)?;

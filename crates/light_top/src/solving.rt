@@ -3,7 +3,8 @@ ghost use Rattle.std.specs.Prelude.{◌≡◌, ◌<◌, ◌^◌, ◌++◌, lengt
 ghost use Rattle.replay_model.specs.Orders.{Respects};
 ghost use Rattle.log_file.specs.Schedules.{schedule_text};
 ghost use Rattle.order_solver.specs.Solving.{IsFound};
-ghost use Rattle.light_top.specs.Solving.{NotSolved, events_line, order_file, IsTranscript, NotReplayed};
+ghost use Rattle.light_top.specs.Solving.{Unsolved, events_line, order_file, IsTranscript, Differing};
+ghost use Rattle.light_top.specs.Statuses.{FailsBy};
 
 use crate::Status;
 use crate::bytes::Bytes;
@@ -23,7 +24,7 @@ use transcript::text_of;
 /// An order that respects the log, found with at most so many dead ends.
 pub fn find_order(alloc: Global, log: &RunLog, budget: u32) -> Result<Order, Status>
     ensures ok { IfOk result (λ order. IsFound log.now order) }
-    ensures err { IfErr result (NotSolved log.now budget) }
+    ensures err { IfErr result (FailsBy (Unsolved log.now budget)) }
 {
     let problem = Problem::of(alloc, log)?;
     match solve(alloc, &problem, budget)? {
@@ -75,7 +76,7 @@ pub fn replay_text(
     requires words { length program.now.words ≡ length log.now.lasts }
     requires order { Respects log.now order.now }
     ensures ok { IfOk result (IsTranscript program.now log.now) }
-    ensures err { IfErr result (NotReplayed program.now log.now) }
+    ensures err { IfErr result (FailsBy (Differing program.now log.now)) }
 {
     match replay_order(alloc, program, log, order)? {
         Replayed::Same(reports, values) => Ok(Bytes::of(text_of(alloc, &reports, &values)?)),

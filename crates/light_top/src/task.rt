@@ -9,8 +9,9 @@ ghost use Rattle.transcript.specs.Transcripts.{transcript, transcript_of};
 ghost use Rattle.light_top.specs.Outputs.{printed_and_saved};
 ghost use Rattle.replay_model.specs.Orders.{Respects};
 ghost use Rattle.light_top.specs.Logs.{logged_print, image_print};
-ghost use Rattle.light_top.specs.Solving.{IsSolved, IsReplayed, NotSolved, NotJudged, NotReplayedWithin};
-ghost use Rattle.light_top.specs.Tasks.{IsMatched, IsRecorded, Means, NotDone};
+ghost use Rattle.light_top.specs.Solving.{IsSolved, IsReplayed, IsDisrespectful, Unsolved, Unreplayed};
+ghost use Rattle.light_top.specs.Statuses.{FailsBy};
+ghost use Rattle.light_top.specs.Tasks.{IsMatched, IsRecorded, Means, Fails};
 
 use crate::Status;
 use crate::arenas::play_arena;
@@ -187,7 +188,7 @@ fn respects_line(alloc: Global) -> Result<Bytes, Memory>
 fn judge(alloc: Global, log: &RunLog, order: &Order) -> Result<Bytes, Status>
     requires { length order.now < 2 ^ 32 }
     ensures ok { IfOk result (λ text. Respects log.now order.now × (text ≡ codes "respects" ++ 10 ∷ [])) }
-    ensures err { IfErr result (NotJudged log.now order.now) }
+    ensures err { IfErr result (FailsBy (IsDisrespectful log.now order.now)) }
 {
     match check(alloc, log, order.as_slice())? {
         Verdict::Respects => Ok(respects_line(alloc)?),
@@ -203,7 +204,7 @@ fn solve_log<'a>(
     budget: u32,
 ) -> Result<Output<'a>, Status>
     ensures ok { IfOk result (IsSolved log.now schedule.entry) }
-    ensures err { IfErr result (NotSolved log.now budget) }
+    ensures err { IfErr result (FailsBy (Unsolved log.now budget)) }
 {
     let order = find_order(alloc, log, budget)?;
     let text = count_text(alloc, &order)?;
@@ -220,7 +221,7 @@ fn replay_log<'a>(
 ) -> Result<Output<'a>, Status>
     requires { logged_print log.now ≡ image_print image.now }
     ensures ok { IfOk result (IsReplayed image.now.program log.now schedule.entry) }
-    ensures err { IfErr result (NotReplayedWithin image.now.program log.now budget) }
+    ensures err { IfErr result (FailsBy (Unreplayed image.now.program log.now budget)) }
 {
     let order = find_order(alloc, log, budget)?;
     let text = replay_text(alloc, image.program(), log, order.as_slice())?;
@@ -236,7 +237,7 @@ pub fn perform<'a, R: Threads + Sync, G: Gate>(
 ) -> Result<Output<'a>, Status>
     requires { IsMatched task }
     ensures ok { IfOk result (Means task.entry) }
-    ensures err { IfErr result (NotDone task.entry) }
+    ensures err { IfErr result (FailsBy (Fails task.entry)) }
 {
     match task {
         Task::Play {
