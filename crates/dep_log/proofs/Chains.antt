@@ -1,25 +1,22 @@
 -- Entries in buckets: one more, one that ends later, and the way along a bucket.
-use Rattle.std.proofs.Common.{◌≡◌, ℕ, ◌+◌, ◌*◌, ◌/◌, ◌%◌, ◌^◌, ◌<◌, ◌≤◌, true, false, eqb, List, [], ◌∷◌, ◌++◌, length, set, replicate, refl, sym, ◌∙◌, ap, subst, arith, inl, inr, ◌⊎◌}
+use Rattle.std.proofs.Common.{◌≡◌, ℕ, ◌+◌, ◌-◌, ◌*◌, ◌/◌, ◌%◌, ◌^◌, ◌<◌, ◌≤◌, true, false, eqb, List, [], ◌∷◌, ◌++◌, length, set, replicate, refl, sym, ◌∙◌, ap, subst, arith, inl, inr, ◌⊎◌}
 use Rattle.std.specs.Prelude.{◌≢◌, slice_index}
 use Rattle.std.proofs.lemmas.Bool.{cases_eq, cases_lt, cases_Bool, eqb-true, eq-eqb, and_parts, and_from}
 use Rattle.std.proofs.lemmas.List.{length_push, length-set, get_or_append_left, get_or_push, get_or-replicate, length-replicate, get_or-set_same, get_or-set_other}
-use Rattle.std.proofs.lemmas.Nat.{div_below}
+use Rattle.std.proofs.lemmas.Nat.{and_le_r}
+use Rattle.light_base.specs.Tags.{bits_of}
 use Rattle.replay_model.specs.Steps.{Tag, same_tag}
 use Rattle.replay_model.specs.MoreReads.{is_entry_for}
 use Rattle.replay_model.proofs.Tags.{same_tag-true, same_tag-same}
 use Rattle.dep_log.specs.AccessLogs.{Entry}
-use Rattle.dep_log.specs.Buckets.{pair_of, bucket_of, no_entry, entry_at, bucket_at, IsNewest, AreBuckets}
+use Rattle.dep_log.specs.Buckets.{bucket_of, no_entry, entry_at, bucket_at, IsNewest, AreBuckets}
 
--- a hash of 32 bits times a number is below 2^32 times the number
-pub hash_below : (hash count : ℕ) → hash < 2 ^ 32 → 0 < count → hash * count < count * 2 ^ 32
-hash_below hash count h c = grind arith
-
+-- the mask keeps a bucket below their number
 pub bucket_of-below : (count word : ℕ) (tag : Tag) → 0 < count → bucket_of count word tag < count
 unfolding bucket_of
 bucket_of-below count word tag c =
-    let hash = pair_of word tag * 11400714819323198485 % 2 ^ 64 / 2 ^ 32 in
-    let small : hash < 2 ^ 32 = omega arith in
-    div_below (hash * count) (2 ^ 32) count (omega arith) (hash_below hash count small c)
+    let within = and_le_r ((bits_of tag * 2654435769 % 2 ^ 32) * count / 2 ^ 32 + word) (count - 1) in
+    omega (arith, within, c)
 
 -- an entry of this word and tag has them
 pub entry_for-word : (word : ℕ) (tag : Tag) (entry : Entry) → is_entry_for word tag entry ≡ true → word ≡ entry.word

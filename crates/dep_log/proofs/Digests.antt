@@ -1,9 +1,9 @@
 -- A log stays well formed when its digest becomes another.
 use Rattle.std.proofs.Common.{ℕ, List}
 use Rattle.std.specs.Prelude.{Some, None}
-use Rattle.replay_model.specs.Steps.{Event, Tag}
+use Rattle.replay_model.specs.Steps.{Tag}
 use Rattle.replay_model.specs.Logs.{Log, ThreadLog}
-use Rattle.replay_model.specs.WellFormed.{IsTaken, IsTagOf, IsThreadOf, IsWellFormed}
+use Rattle.replay_model.specs.WellFormed.{IsTagOf, IsThreadOf, IsWellFormed}
 
 module _ (log : Log) (digest : List ℕ) where
   tag-kept : (tag : Tag) → IsTagOf log tag → IsTagOf (record log { digest = digest }) tag

@@ -1,18 +1,14 @@
 -- Entries in buckets, each of which is a list of places: of its newest entry the place plus one, and for each entry that of the next older one. 0 is none.
-use Rattle.std.specs.Prelude.{◌≡◌, ◌≢◌, ℕ, ◌+◌, ◌*◌, ◌/◌, ◌%◌, ◌^◌, ◌<◌, ◌≤◌, true, false, Option, Some, None, List, length, slice_index, slice_index_or, vec_len, vec_capacity}
+use Rattle.std.specs.Prelude.{◌≡◌, ◌≢◌, ℕ, ◌+◌, ◌-◌, ◌*◌, ◌/◌, ◌%◌, ◌^◌, ◌<◌, ◌≤◌, true, false, bit_and, Option, Some, None, List, length, slice_index, slice_index_or, vec_len, vec_capacity}
 use Rattle.std.specs.Global.{Vec}
 use Rattle.light_base.specs.Tags.{bits_of}
 use Rattle.replay_model.specs.Steps.{Tag}
 use Rattle.replay_model.specs.declared.Entry.{Entry}
 use Rattle.replay_model.specs.MoreReads.{is_entry_for}
 
--- a word and a tag as one number
-unfoldable pub pair_of : ℕ → Tag → ℕ
-pair_of word tag = word * 2 ^ 32 + bits_of tag
-
 -- the bucket of a word and a tag, of so many; any function of the two would do
 unfoldable pub bucket_of : ℕ → ℕ → Tag → ℕ
-bucket_of count word tag = (pair_of word tag * 11400714819323198485 % 2 ^ 64 / 2 ^ 32) * count / 2 ^ 32
+bucket_of count word tag = bit_and ((bits_of tag * 2654435769 % 2 ^ 32) * count / 2 ^ 32 + word) (count - 1)
 
 -- stands where a list has no entry
 abbrev pub no_entry : Entry

@@ -3,7 +3,7 @@
 ghost use Rattle.std.specs.Prelude.{◌≡◌, false, ◌+◌, ◌<◌, ◌++◌, ◌∷◌, [], ◌^◌, length, vec_len, vec_capacity};
 ghost use Rattle.std.specs.List.{list_any};
 ghost use Rattle.replay_model.specs.MoreReads.{is_entry_for, with_read};
-ghost use Rattle.dep_log.specs.Buckets.{bucket_of, pair_of, AreBuckets, AreOnce, HasPlace, IsPlaceOf};
+ghost use Rattle.dep_log.specs.Buckets.{bucket_of, AreBuckets, AreOnce, HasPlace, IsPlaceOf};
 
 use light_base::Tag;
 use replay_model::Entry;
@@ -11,27 +11,21 @@ use replay_model::Entry;
 /// What a half of a number of 64 bits is worth in it.
 const HALF: u64 = 1 << 32;
 
-/// Spreads pairs over buckets: 2^64 divided by the golden ratio.
-const SPREAD: u64 = 11_400_714_819_323_198_485;
+/// Spreads sources over buckets: 2^32 divided by the golden ratio.
+const SPREAD: u32 = 2_654_435_769;
 
-// A word and a source as one number.
-#[tactic(auto, unfolding(crate::specs::Buckets::pair_of))]
-fn pair_of(word: u16, source: Tag) -> u64
-    ensures { result ≡ pair_of word source }
-{
-    u64::from(word) * HALF + u64::from(source.bits())
-}
-
-// The bucket of a word and a source, of so many.
-#[tactic(auto, unfolding(crate::specs::Buckets::bucket_of))]
+// The bucket of a word and a source, of so many, a power of two. Words beside each other with one source, as a thread
+// reads them that goes through them, have buckets beside each other, and so heads in one line of the cache.
+#[tactic(auto, unfolding(crate::specs::Buckets::bucket_of), using(std::proofs::lemmas::Nat::and_le_r))]
 pub(crate) fn bucket_of(count: usize, word: u16, source: Tag) -> usize
     requires some { 0 < count }
     requires few { count < 2 ^ 16 }
     ensures value { result ≡ bucket_of count word source }
     ensures below { result < count }
 {
-    let hash = pair_of(word, source).wrapping_mul(SPREAD) / HALF;
-    (hash * count as u64 / HALF) as usize
+    let hash = u64::from(source.bits().wrapping_mul(SPREAD));
+    let start = (hash * count as u64 / HALF) as usize;
+    (start + usize::from(word)) & (count - 1)
 }
 
 // The place of the entry of a word and a source, which have this bucket. Its newest entry is looked at first.

@@ -11,9 +11,8 @@ use Rattle.replay_model.specs.declared.Entry.{Entry}
 use Rattle.replay_model.specs.Steps.{same_tag}
 use Rattle.replay_model.specs.MoreReads.{is_entry_for}
 use Rattle.replay_model.proofs.Tags.{same_tag-true, same_tag-same}
-use Rattle.dep_log.specs.Buckets.{pair_of}
 use Rattle.log_file.specs.LogReading.{ends_late}
-use Rattle.log_file.specs.Seen.{IsNumbered}
+use Rattle.log_file.specs.Seen.{IsNumbered, pair_of}
 
 -- two answers are the same where each follows from the other
 pub same_answers : (a b : Bool) → (a ≡ true → b ≡ true) → (b ≡ true → a ≡ true) → a ≡ b

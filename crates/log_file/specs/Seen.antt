@@ -1,14 +1,17 @@
 -- What is known of the entries of a thread while they are read.
-use Rattle.std.specs.Prelude.{◌≡◌, ℕ, ◌^◌, ◌<◌, nat_eq, nat_le, length, slice_index, All}
+use Rattle.std.specs.Prelude.{◌≡◌, ℕ, ◌+◌, ◌*◌, ◌^◌, ◌<◌, nat_eq, nat_le, length, slice_index, All}
 use Rattle.std.specs.List.{list_any}
 use Rattle.std.specs.HashSet.{contains}
 use Rattle.light_base.specs.declared.tag.Tag.{Tag}
 use Rattle.light_base.specs.Tags.{bits_of, writer_of}
 use Rattle.replay_model.specs.declared.Entry.{Entry}
 use Rattle.replay_model.specs.MoreReads.{is_entry_for}
-use Rattle.dep_log.specs.Buckets.{pair_of}
 use Rattle.log_file.specs.declared.seen.Seen.{Seen}
 use Rattle.log_file.specs.LogReading.{ends_late}
+
+-- a word and a tag as one number
+unfoldable pub pair_of : ℕ → Tag → ℕ
+pair_of word tag = word * 2 ^ 32 + bits_of tag
 
 -- a tag that has a number of 32 bits
 pub record IsNumbered (tag : Tag) : Type 0 where

@@ -3,8 +3,7 @@ ghost use Rattle.std.specs.Prelude.{◌≡◌, [], ◌∷◌, ◌++◌, ◌^◌,
 ghost use Rattle.std.specs.List.{list_any};
 ghost use Rattle.replay_model.specs.MoreReads.{is_entry_for};
 ghost use Rattle.log_file.specs.LogReading.{newest_first, ends_late};
-ghost use Rattle.dep_log.specs.Buckets.{pair_of};
-ghost use Rattle.log_file.specs.Seen.{IsNumbered, IsKept};
+ghost use Rattle.log_file.specs.Seen.{IsNumbered, IsKept, pair_of};
 
 use light_base::Tag;
 use replay_model::Entry;
@@ -25,7 +24,7 @@ pub(crate) struct Seen {
 }
 
 // A word and a tag as one number.
-#[tactic(auto, unfolding(dep_log::specs::Buckets::pair_of))]
+#[tactic(auto, unfolding(crate::specs::Seen::pair_of))]
 fn pair_of(word: u16, source: Tag) -> u64
     ensures value { result ≡ pair_of word source }
     ensures numbered { IsNumbered source }

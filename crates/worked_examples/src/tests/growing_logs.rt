@@ -48,18 +48,18 @@ static ROWS: [Row; 7] = [
     },
     // One source in two words and two sources of one word, all in one bucket of eight.
     Row {
-        words: 3,
+        words: 9,
         limit: 8,
         reads: &[
             (0, "initial", 1),
-            (0, "2:2", 2),
-            (2, "2:2", 4),
+            (0, "0:4", 2),
+            (8, "0:4", 4),
             (0, "initial", 5),
-            (2, "2:2", 8),
-            (0, "2:2", 10),
+            (8, "0:4", 8),
+            (0, "0:4", 10),
         ],
         full_from: 7,
-        entries: "0 initial 1 5;0 2:2 2 10;2 2:2 4 8;",
+        entries: "0 initial 1 5;0 0:4 2 10;8 0:4 4 8;",
     },
     // A full log, whose pairs are read again.
     Row {

@@ -6,9 +6,8 @@ use Rattle.std.proofs.lemmas.List.{get_or_default}
 use Rattle.std.proofs.lemmas.List.Elements.{All-push}
 use Rattle.replay_model.specs.declared.Entry.{Entry}
 use Rattle.replay_model.specs.MoreReads.{is_entry_for}
-use Rattle.dep_log.specs.Buckets.{pair_of}
 use Rattle.log_file.specs.LogReading.{ends_late}
-use Rattle.log_file.specs.Seen.{IsNumbered}
+use Rattle.log_file.specs.Seen.{IsNumbered, pair_of}
 use Rattle.log_file.proofs.Kept.{pairs_more, ends_more}
 use Rattle.log_file.proofs.seen.Seen.push.Goals as goal
 
