@@ -8,6 +8,7 @@ use Rattle.replay_model.specs.MoreReads.{with_read}
 use Rattle.replay_model.specs.Histories.{IsLegal}
 use Rattle.machine.specs.Programs.{ProgramValue, LimitsValue, AreLimits, IsProgram}
 use Rattle.machine.specs.Cores.{State, Report, first_state, settled, took, end_of, report_of}
+use Rattle.machine.specs.Turns.{IsUnderWay}
 use Rattle.machine.specs.Inputs.{InputsValue, inputs_of}
 use Rattle.machine.specs.Runs.{state_after, start_of}
 use Rattle.dep_log.specs.DepLogs.{DepLogState, no_entries}
@@ -28,6 +29,11 @@ pub record IsFresh (words limit t : ℕ) (seat : Seat) : Type 0 where
 pub record AreFresh (words limit count : ℕ) (seats : List Seat) : Type 0 where
   pub counted : length seats ≡ count
   pub each : (t : ℕ) (seat : Seat) → t < count → IsFresh words limit t (slice_index_or seats t seat)
+
+-- the core ran a part of the way to its next step or its end
+pub record HasBegunRun (p : ProgramValue) (limits : LimitsValue) (inputs : InputsValue) (old new : Seat) : Type 0 where
+  pub core : IsUnderWay p limits (inputs_of inputs old.core.thread) (nat_le old.log.limit (length old.log.entries)) old.core new.core
+  pub rest : new ≡ record old { core = new.core }
 
 -- the log of a thread that took these steps
 abbrev pub log_of : ProgramValue → LimitsValue → List Step → DepLogState

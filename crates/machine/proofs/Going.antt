@@ -1,13 +1,14 @@
 -- How a run of local instructions settles a state, from what is known where it is called.
 use Rattle.std.proofs.Common.{◌≡◌, ℕ, ◌<◌, Bool, List, [], length, sym, ◌∙◌, ap, subst, arith}
-use Rattle.std.specs.Prelude.{Some}
+use Rattle.std.specs.Prelude.{Some, None}
 use Rattle.std.proofs.lemmas.List.Elements.{All-get_or}
 use Rattle.replay_model.specs.declared.Want.{Want}
 use Rattle.machine.specs.declared.program.Instr.{Instr}
 use Rattle.machine.specs.Programs.{ProgramValue, LimitsValue, AreLimits, IsCode, IsProgram, code_of}
 use Rattle.machine.specs.Cores.{State, run_on, settled}
 use Rattle.machine.proofs.Local.{run_on-entries}
-use Rattle.machine.proofs.Rests.{settled-some}
+use Rattle.machine.specs.Turns.{IsUnderWay}
+use Rattle.machine.proofs.Rests.{settled-some, settled-none}
 
 -- something is pending already
 pub settled_already : (p : ProgramValue) (limits : LimitsValue) (inputs : List ℕ) (full : Bool) (s now : State) (wanted : Want) → s ≡ now → s.pending ≡ Some wanted →
@@ -15,6 +16,16 @@ pub settled_already : (p : ProgramValue) (limits : LimitsValue) (inputs : List �
 settled_already p limits inputs full s now wanted same h =
     let P : State → Type 0 = λ n. (n ≡ settled p limits inputs full n) × (n.pending ≡ Some wanted) in
     subst P same (sym (settled-some p limits inputs full s wanted h), h)
+
+-- a run that comes to a place goes on from there
+pub under_way : (p : ProgramValue) (limits : LimitsValue) (inputs : List ℕ) (full : Bool) (old new : State) → old.pending ≡ None → old.expected ≡ None →
+    old ≡ record new { registers = old.registers; place = old.place; instr = old.instr } →
+    run_on (code_of p old.thread) (length p.words) limits inputs full old ≡ run_on (code_of p new.thread) (length p.words) limits inputs full new → IsUnderWay p limits inputs full old new
+under_way p limits inputs full old new none fresh rest same = record {
+  leads = settled-none p limits inputs full new None (sym (ap (λ (n : State). n.pending) rest) ∙ none) (sym (ap (λ (n : State). n.expected) rest) ∙ fresh) ∙ sym same ∙
+      sym (settled-none p limits inputs full old None none fresh);
+  rest = rest;
+}
 
 -- the code of a thread of a program keeps the rules
 pub code_rules : (p : ProgramValue) (thread : ℕ) (code : List Instr) → IsProgram p → thread < length p.threads → code ≡ code_of p thread → IsCode code

@@ -1,12 +1,14 @@
 -- What one instruction does, apart from what it leaves alone.
-use Rattle.std.specs.Prelude.{◌≡◌, ℕ, ◌+◌, ◌<◌, ◌≤◌, Bool, Some, None, List, length}
+use Rattle.std.specs.Prelude.{◌≡◌, ℕ, ◌+◌, ◌<◌, ◌≤◌, Bool, true, false, Some, None, List, length}
 use Rattle.machine.specs.declared.program.Instr.{Instr}
 use Rattle.machine.specs.declared.cores.Course.{Course}
+use Rattle.machine.specs.declared.cores.Local.{Local}
+use Rattle.machine.specs.declared.cores.Local.TheVariants as local
 use Rattle.machine.specs.declared.cores.Rest.{Rest}
 use Rattle.machine.specs.declared.cores.Turn.{Turn}
 use Rattle.machine.specs.declared.cores.Turn.TheVariants as turn
 use Rattle.machine.specs.Programs.{ProgramValue, LimitsValue, AreLimits, IsCode, code_of}
-use Rattle.machine.specs.Cores.{State, comes_to, ran}
+use Rattle.machine.specs.Cores.{State, comes_to, computes, is_memory, ran, settled}
 
 -- the limits that bound a course; how many entries a log may have is settled before it
 abbrev pub bounds_of : Course → LimitsValue
@@ -25,6 +27,14 @@ pub record NamesRegisters (i : Instr) : Type 0 where
   pub a : i.a < 16
   pub b : i.b < 16
   pub c : i.c < 16
+
+-- an instruction that only computes or jumps led to a place and to these registers; another one is a memory step or not, and changes nothing
+abbrev pub Computed : Instr → List ℕ → ℕ → Local → List ℕ → Type 0
+Computed i old place (local.Next next) new =
+    (computes i.op ≡ true) ×
+    ((s : State) (inputs output : List ℕ) (steps instr taken : ℕ) → ran inputs i.op (moved s old place output steps instr taken) i ≡ moved s new next output steps (instr + 1) taken)
+Computed i old place local.Memory new = (computes i.op ≡ false) × (is_memory i.op ≡ true) × (new ≡ old)
+Computed i old place local.Other new = (computes i.op ≡ false) × (is_memory i.op ≡ false) × (new ≡ old)
 
 -- the thread stops at an instruction, or has run it and gone to the next place
 abbrev pub Turns : ℕ → LimitsValue → List ℕ → Bool → Instr → State → Turn → List ℕ → List ℕ → ℕ → Type 0
@@ -45,3 +55,8 @@ pub record IsCourse (p : ProgramValue) (limits : LimitsValue) (list : List ℕ) 
   pub rules : IsCode c.code.now
   pub bounds : AreLimits (bounds_of c)
   pub few : c.words ≤ 4096
+
+-- some of the instructions up to the next memory step or end were run, and the thread goes on from there
+pub record IsUnderWay (p : ProgramValue) (limits : LimitsValue) (inputs : List ℕ) (full : Bool) (old new : State) : Type 0 where
+  pub leads : settled p limits inputs full new ≡ settled p limits inputs full old
+  pub rest : old ≡ record new { registers = old.registers; place = old.place; instr = old.instr }

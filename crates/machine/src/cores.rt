@@ -1,9 +1,9 @@
 // One thread of a program: its registers and its place, and what it wants of the memory next.
-ghost use Rattle.std.specs.Prelude.{◌≡◌, ℕ, ◌+◌, ◌<◌, ◌≤◌, true, false, if◌then◌else◌, slice_get, Some, None, List, [], length, take, IfOk, IfSome, OnOk, OnErr, IsSome, is_some, IsSomeAnd, option_and_then};
+ghost use Rattle.std.specs.Prelude.{◌≡◌, ℕ, ◌+◌, ◌<◌, ◌≤◌, true, false, if◌then◌else◌, slice_get, slice_index, Some, None, List, [], length, take, IfOk, IfSome, OnOk, OnErr, IsSome, IsSomeAnd, option_and_then};
 ghost use Rattle.replay_model.specs.Steps.{reads, has_ended};
 ghost use Rattle.machine.specs.Programs.{AreLimits, IsCode, code_of};
-ghost use Rattle.machine.specs.Cores.{State, first_state, is_memory, comes_to, ran, run_on, second_wanted, computes, IsState, settled, with_register, told, compared, exchanged, cas_found, pending_want, step_done, took, end_of, report_of, is_store};
-ghost use Rattle.machine.specs.Turns.{bounds_of, moved, rested, IsCourse, NamesRegisters, Turns};
+ghost use Rattle.machine.specs.Cores.{State, first_state, is_memory, comes_to, run_on, second_wanted, computes, IsState, settled, with_register, told, compared, exchanged, cas_found, pending_want, step_done, took, end_of, report_of, is_store};
+ghost use Rattle.machine.specs.Turns.{bounds_of, moved, rested, Computed, IsCourse, IsUnderWay, NamesRegisters, Turns};
 
 use crate::program::{Instr, Limits, Op, Program};
 use light_base::{Cell, Memory, Tag};
@@ -56,8 +56,9 @@ pub struct Core {
     place: usize,
     output: Vec<u32>,
     steps: u32,
-    instr: u32,
     taken: u32,
+    // Not beside `steps`: both go up at each memory step, and one read of 64 bits would wait for the store of its half.
+    instr: u32,
     doing: Instr,
     expected: Option<Expected>,
     pending: Option<Want>,
@@ -80,6 +81,17 @@ enum Turn {
     Next(usize),
     /// The thread stays before it and wants this.
     Stop(Want),
+}
+
+/// What an instruction is to a thread that runs without the memory.
+#[derive(Clone, Copy)]
+enum Local {
+    /// It only computed or jumped, and the thread goes on at this place.
+    Next(usize),
+    /// It takes a memory step.
+    Memory,
+    /// It ends the thread, puts out a value or takes an input number.
+    Other,
 }
 
 /// A place in a code, how many instructions were finished before it, and the instruction there if it takes a memory step.
@@ -132,38 +144,52 @@ fn put_down(pending: &mut Option<Want>, wanted: Want) -> Want
     told
 }
 
-// The place after an instruction that only computes or jumps. None where it does something else, and nothing is changed.
+// The value of a register.
 #[inline(always)]
-fn compute(registers: &mut [u32; 16], place: usize, i: &Instr) -> Option<usize>
+fn value_of(registers: &[u32; 16], number: u8) -> u32
+    requires { number < 16 }
+    ensures { result ≡ slice_index registers.now number }
+{
+    registers[usize::from(number)]
+}
+
+// Takes an instruction that only computes or jumps; with another one nothing changes. Each arm reads the fields that it needs.
+#[inline(always)]
+fn compute(registers: &mut [u32; 16], place: usize, i: &Instr) -> Local
     requires place { place < 4096 }
     requires fields { NamesRegisters i.now }
-    ensures some { IfSome result (λ next. (s : State) (inputs output : List ℕ) (steps instr taken : ℕ) → ran inputs i.now.op (moved s registers.old place output steps instr taken) i.now ≡ moved s registers.new next output steps (instr + 1) taken) }
-    ensures none { result ≡ None → registers.new ≡ registers.old }
-    ensures local { is_some result ≡ computes i.now.op }
+    ensures { Computed i.now registers.old place result registers.new }
 {
-    let (a, b, c) = (usize::from(i.a), usize::from(i.b), usize::from(i.c));
-    let imm = i.imm;
-    match i.op {
-        Op::Const => registers[a] = imm,
-        Op::Mov => registers[a] = registers[b],
-        Op::Add => registers[a] = registers[b].wrapping_add(registers[c]),
-        Op::Sub => registers[a] = registers[b].wrapping_sub(registers[c]),
-        Op::Mul => registers[a] = registers[b].wrapping_mul(registers[c]),
-        Op::And => registers[a] = registers[b] & registers[c],
-        Op::Or => registers[a] = registers[b] | registers[c],
-        Op::Xor => registers[a] = registers[b] ^ registers[c],
-        Op::Shl => registers[a] = registers[b].wrapping_shl(registers[c]),
-        Op::Shr => registers[a] = registers[b].wrapping_shr(registers[c]),
-        Op::Addi => registers[a] = registers[b].wrapping_add(imm),
-        Op::Jmp => return Some(jump(true, imm, place)),
-        Op::Jeq => return Some(jump(registers[a] == registers[b], imm, place)),
-        Op::Jne => return Some(jump(registers[a] != registers[b], imm, place)),
-        Op::Jlt => return Some(jump(registers[a] < registers[b], imm, place)),
-        Op::Halt | Op::Out | Op::Load | Op::Store | Op::Xchg | Op::Cas | Op::Input => {
-            return None;
+    let value = match i.op {
+        Op::Const => i.imm,
+        Op::Mov => value_of(registers, i.b),
+        Op::Add => value_of(registers, i.b).wrapping_add(value_of(registers, i.c)),
+        Op::Sub => value_of(registers, i.b).wrapping_sub(value_of(registers, i.c)),
+        Op::Mul => value_of(registers, i.b).wrapping_mul(value_of(registers, i.c)),
+        Op::And => value_of(registers, i.b) & value_of(registers, i.c),
+        Op::Or => value_of(registers, i.b) | value_of(registers, i.c),
+        Op::Xor => value_of(registers, i.b) ^ value_of(registers, i.c),
+        Op::Shl => value_of(registers, i.b).wrapping_shl(value_of(registers, i.c)),
+        Op::Shr => value_of(registers, i.b).wrapping_shr(value_of(registers, i.c)),
+        Op::Addi => value_of(registers, i.b).wrapping_add(i.imm),
+        Op::Jmp => return Local::Next(jump(true, i.imm, place)),
+        Op::Jeq => {
+            let equal = value_of(registers, i.a) == value_of(registers, i.b);
+            return Local::Next(jump(equal, i.imm, place));
         }
-    }
-    Some(place + 1)
+        Op::Jne => {
+            let other = value_of(registers, i.a) != value_of(registers, i.b);
+            return Local::Next(jump(other, i.imm, place));
+        }
+        Op::Jlt => {
+            let less = value_of(registers, i.a) < value_of(registers, i.b);
+            return Local::Next(jump(less, i.imm, place));
+        }
+        Op::Load | Op::Store | Op::Xchg | Op::Cas => return Local::Memory,
+        Op::Halt | Op::Out | Op::Input => return Local::Other,
+    };
+    registers[usize::from(i.a)] = value;
+    Local::Next(place + 1)
 }
 
 impl<'a> Course<'a, '_> {
@@ -179,22 +205,20 @@ impl<'a> Course<'a, '_> {
     {
         while instr < self.most_instr && place < self.code.len() {
             let i = &self.code[place];
-            if i.op.is_memory() {
-                return Way {
-                    place,
-                    instr,
-                    memory: Some(i),
-                };
+            match compute(registers, place, i) {
+                Local::Next(next) => {
+                    place = next;
+                    instr += 1;
+                }
+                Local::Memory => {
+                    return Way {
+                        place,
+                        instr,
+                        memory: Some(i),
+                    };
+                }
+                Local::Other => break,
             }
-            let Some(next) = compute(registers, place, i) else {
-                return Way {
-                    place,
-                    instr,
-                    memory: None,
-                };
-            };
-            place = next;
-            instr += 1;
         }
         Way {
             place,
@@ -273,8 +297,8 @@ impl<'a> Course<'a, '_> {
                 return Ok(Turn::Stop(self.memory_step(registers, i, &mut pending)));
             }
             _ => match compute(registers, place, i) {
-                Some(next) => return Ok(Turn::Next(next)),
-                None => unreachable!(),
+                Local::Next(next) => return Ok(Turn::Next(next)),
+                Local::Memory | Local::Other => unreachable!(),
             },
         }
         Ok(Turn::Next(place + 1))
@@ -357,7 +381,7 @@ impl Core {
     /// Runs the instructions that touch no shared word, up to the next memory step or the end, which is then pending;
     /// with something pending already, answers that and changes nothing. `inputs` is the thread's input list, the same at
     /// each call, of at most 65,536 numbers; `full` says that the thread's log has as many entries as it may have. An
-    /// `Err` comes only where these instructions put out a value.
+    /// `Err` comes only where these instructions put out a value, and then all is as before.
     pub fn go_with(
         &mut self,
         program: &Program,
@@ -369,6 +393,34 @@ impl Core {
         requires inputs { length inputs.now ≤ 65536 }
         ensures ok { IfOk result (λ wanted. (self.new ≡ settled program.now limits.now inputs.now full self.old) × (self.new.pending ≡ Some wanted)) }
         ensures err { OnErr result (self.new ≡ self.old) }
+        ensures memory { OnErr result (length self.old.output < length (settled program.now limits.now inputs.now full self.old).output) }
+    {
+        let (registers, place, instr) = (self.registers, self.place, self.instr);
+        match self.advance(program, limits, inputs, full) {
+            Ok(wanted) => Ok(wanted),
+            Err(Memory) => {
+                self.registers = registers;
+                self.place = place;
+                self.instr = instr;
+                Err(Memory)
+            }
+        }
+    }
+
+    /// Goes on as `go_with` does, but keeps no copy of the registers: after an `Err` some of the instructions may have
+    /// been run, none of which put out a value, and the next call goes on from there.
+    #[inline(always)]
+    pub fn advance(
+        &mut self,
+        program: &Program,
+        limits: &Limits,
+        inputs: &[u32],
+        full: bool,
+    ) -> Result<Want, Memory>
+        requires thread { self.old.thread < length program.now.threads }
+        requires inputs { length inputs.now ≤ 65536 }
+        ensures ok { IfOk result (λ wanted. (self.new ≡ settled program.now limits.now inputs.now full self.old) × (self.new.pending ≡ Some wanted)) }
+        ensures err { OnErr result (IsUnderWay program.now limits.now inputs.now full self.old self.new) }
         ensures memory { OnErr result (length self.old.output < length (settled program.now limits.now inputs.now full self.old).output) }
     {
         if let Some(wanted) = self.pending {
@@ -433,7 +485,8 @@ impl Core {
     }
 
     // Runs local instructions up to the next memory step or the end, those that only compute or jump in one go. Where an
-    // output is refused all is as before.
+    // output is refused, those before the first one that is neither were run.
+    #[inline(always)]
     fn run(
         &mut self,
         program: &Program,
@@ -446,19 +499,15 @@ impl Core {
         requires fresh { self.old.expected ≡ None }
         requires none { self.old.pending ≡ None }
         ensures ok { IfOk result (λ wanted. (self.new ≡ run_on (code_of program.now self.old.thread) (length program.now.words) limits.now inputs.now full self.old) × (self.new.pending ≡ Some wanted)) }
-        ensures err { OnErr result (self.new ≡ self.old) }
+        ensures err { OnErr result (IsUnderWay program.now limits.now inputs.now full self.old self.new) }
         ensures memory { OnErr result (length self.old.output < length (run_on (code_of program.now self.old.thread) (length program.now.words) limits.now inputs.now full self.old).output) }
     {
-        let (registers, place, instr) = (self.registers, self.place, self.instr);
         let course = self.course(program, limits, inputs, full);
         let way = course.go_along(&mut self.registers, self.place, self.instr);
         self.place = way.place;
         self.instr = way.instr;
         let Some(i) = way.memory else {
             if self.run_on(program, limits, inputs, full).is_err() {
-                self.registers = registers;
-                self.place = place;
-                self.instr = instr;
                 return Err(Memory);
             }
             return Ok(self.wanted());
@@ -525,6 +574,7 @@ impl Core {
 
     /// Takes the cell that the pending reading step found; nothing is pending afterwards. A conditional write has won
     /// exactly where the cell's tag is the one that it expects.
+    #[inline(always)]
     pub fn found(&mut self, cell: Cell)
         requires { IsSomeAnd self.old.pending (λ wanted. reads wanted ≡ true) }
         ensures { self.new ≡ took self.old (Some cell) }
@@ -538,6 +588,7 @@ impl Core {
     }
 
     // The pending step of a compare-exchange found this cell.
+    #[inline(never)]
     fn cas_found(&mut self, cell: Cell)
         requires { IsSomeAnd self.old.pending (λ wanted. has_ended wanted ≡ false) }
         ensures { self.new ≡ cas_found self.old (pending_want self.old) cell }
@@ -559,6 +610,7 @@ impl Core {
     }
 
     /// The pending store was made; nothing is pending afterwards.
+    #[inline(always)]
     pub fn stored(&mut self)
         requires { IsSomeAnd self.old.pending (λ wanted. is_store wanted ≡ true) }
         ensures { self.new ≡ took self.old None }

@@ -2,7 +2,6 @@
 ghost use Rattle.std.specs.Prelude.{◌≡◌, ◌↔◌, ◌<◌, ◌≤◌, Some, true, length, map, SomeIff, IsOk};
 ghost use Rattle.std.specs.List.{list_all};
 ghost use Rattle.machine.specs.Programs.{AreLimits, IsProgram, code_lists, code_of, code_of_op, op_of, uses_a, uses_b, uses_c, uses_imm, jumps, has_registers, has_idle_zero, has_target};
-ghost use Rattle.machine.specs.Cores.{is_memory};
 ghost use Rattle.machine.specs.Faults.{instr_fault, code_fault, codes_fault, program_fault, checked, are_counts, is_short_code};
 
 use crate::image_fault::{ImageFault, ImageKind};
@@ -137,13 +136,6 @@ impl Op {
             Op::Load | Op::Store | Op::Xchg | Op::Cas => true,
             _ => self.jumps(),
         }
-    }
-
-    // Whether the operation takes a memory step.
-    pub(crate) fn is_memory(self) -> bool
-        ensures { result ≡ is_memory self }
-    {
-        matches!(self, Op::Load | Op::Store | Op::Xchg | Op::Cas)
     }
 
     /// Whether imm is a place in the code.

@@ -27,7 +27,7 @@ use Rattle.tagged_words.specs.Views.{SharedWords, Progress}
 use Rattle.tagged_words.specs.Hands.{Takes, new_hand}
 use Rattle.tagged_words.proofs.Places.{slice_get_push}
 use Rattle.dep_log.specs.DepLogs.{DepLogState}
-use Rattle.recorder.specs.Running.{Running, IsRunning, IsBegun, HoldsLoad, NotesLoad, IsReadyFor, Advances, noted, puts_out, threads_with, led_to, next_want}
+use Rattle.recorder.specs.Running.{Running, IsRunning, IsBegun, HoldsLoad, NotesLoad, IsReadyFor, IsSame, Advances, noted, puts_out, threads_with, led_to, next_want}
 use Rattle.recorder.proofs.ThreadFacts.{obeys}
 
 -- a want that is no end
@@ -243,9 +243,9 @@ advances-more r seen core hand wanted found view takes room =
     )
 
 -- no memory was found for a value that the code puts out
-pub refused : (r seen : Running) (core : State) → r ≡ seen → core ≡ r.core → r.core.thread ≡ r.hand.thread → puts_out (code_of r.program r.core.thread) ≡ true →
-    (record r { core = core } ≡ seen) × (puts_out (code_of seen.program seen.hand.thread) ≡ true)
-refused r seen core view same own puts = (
-  ap (λ (s : State). record r { core = s }) same ∙ view,
+pub refused : (r seen : Running) (core : State) → r ≡ seen → r.core.thread ≡ r.hand.thread → puts_out (code_of r.program r.core.thread) ≡ true →
+    IsSame seen (record r { core = core }) × (puts_out (code_of seen.program seen.hand.thread) ≡ true)
+refused r seen core view own puts = (
+  subst (λ (x : Running). IsSame x (record r { core = core })) view (record { program = refl; limits = refl; list = refl; words = refl; thread = refl }),
   subst (λ (x : Running). puts_out (code_of x.program x.hand.thread) ≡ true) view (subst (λ (t : ℕ). puts_out (code_of r.program t) ≡ true) own puts),
 )

@@ -1,5 +1,5 @@
 // A thread that runs at shared words.
-ghost use Rattle.std.specs.Prelude.{◌≡◌, ◌+◌, ◌<◌, ◌≤◌, ◌^◌, true, false, All, Some, is_some, IfOk, IfErr, OnOk, OnErr, [], length};
+ghost use Rattle.std.specs.Prelude.{◌≡◌, ◌+◌, ◌<◌, ◌≤◌, ◌^◌, true, false, All, Some, is_some, IfOk, IfErr, OnErr, [], length};
 ghost use Rattle.replay_model.specs.Steps.{has_ended, reads, word_of};
 ghost use Rattle.machine.specs.Programs.{code_of};
 ghost use Rattle.machine.specs.Cores.{first_state, took};
@@ -160,12 +160,12 @@ impl<'a> Runner<'a> {
     // Runs up to the next memory step or the end, and takes the step. Whether it took one; it has ended if not.
     pub(crate) fn step<G: Gate>(&mut self, gate: &G) -> Result<bool, Memory>
         ensures ok { IfOk result (λ went. Advances self.old went self.new) }
-        ensures err { OnErr result ((self.new ≡ self.old) × (puts_out (code_of self.old.program self.old.hand.thread) ≡ true)) }
+        ensures err { OnErr result (IsSame self.old self.new × (puts_out (code_of self.old.program self.old.hand.thread) ≡ true)) }
     {
         let full = self.log.is_full();
         let want = self
             .core
-            .go_with(self.program, self.limits, self.inputs, full)?;
+            .advance(self.program, self.limits, self.inputs, full)?;
         if let Want::Ended(_) = want {
             return Ok(false);
         }

@@ -1,7 +1,9 @@
-use Rattle.std.proofs.Common.{Option, List, ℕ, ◌≡◌, ◌<◌, ◌≤◌, true, Some, Bor, slice_get, length, sym, ◌∙◌, ap, subst, arith}
+use Rattle.std.proofs.Common.{Option, List, ℕ, ◌≡◌, ◌<◌, ◌≤◌, true, Some, Bor, slice_get, length, refl, sym, ◌∙◌, ap, subst, arith}
 use Rattle.replay_model.specs.declared.Want.{Want}
 use Rattle.machine.specs.declared.program.Instr.{Instr}
-use Rattle.machine.specs.Cores.{State, IsState, is_memory}
+use Rattle.machine.specs.Programs.{code_of}
+use Rattle.machine.specs.Cores.{State, IsState, is_memory, run_on}
+use Rattle.machine.proofs.Going.{under_way}
 use Rattle.machine.specs.Turns.{bounds_of, IsCourse}
 use Rattle.machine.specs.contracts.cores.Core.{the_view}
 use Rattle.machine.proofs.Keeps.{instr_at, names_registers, run_on-is_state}
@@ -20,6 +22,22 @@ returns-in_default-clause-ok c =
           sym (walked c.args.program.now c.args.limits.now c.args.inputs.now c.args.full course c.go_along-way.new.registers way.place way.instr s c.args.self.now c.self.view_is is c.go_along-way.ensures.same),
       c.wanted.ensures,
     )
+
+pub returns-then-is_err-clause-err : goal.returns-then-is_err-clause-err
+returns-then-is_err-clause-err c =
+    let s = the_view c.self.inside in
+    let way = c.go_along-way.result in
+    let course = c.course-course.result in
+    let is : IsCourse c.args.program.now c.args.limits.now c.args.inputs.now c.args.full s course =
+    subst (λ (x : State). IsCourse c.args.program.now c.args.limits.now c.args.inputs.now c.args.full x course) (sym c.self.view_is) c.course-course.ensures in
+    let there : State = record s { registers = c.go_along-way.new.registers; place = way.place; instr = way.instr } in
+    let stays : c.run_on.new.self ≡ there = err_there _ _ (sym c.if-is_err.ensures.value) c.run_on.ensures.err in
+    let rest : c.args.self.now ≡ record c.run_on.new.self { registers = c.args.self.now.registers; place = c.args.self.now.place; instr = c.args.self.now.instr } =
+    subst (λ (n : State). c.args.self.now ≡ record n { registers = c.args.self.now.registers; place = c.args.self.now.place; instr = c.args.self.now.instr }) (sym stays)
+    (subst (λ (n : State). n ≡ record there { registers = n.registers; place = n.place; instr = n.instr }) c.self.view_is refl) in
+    under_way c.args.program.now c.args.limits.now c.args.inputs.now c.args.full c.args.self.now c.run_on.new.self c.requires.none c.requires.fresh rest
+    (walked c.args.program.now c.args.limits.now c.args.inputs.now c.args.full course c.go_along-way.new.registers way.place way.instr s c.args.self.now c.self.view_is is c.go_along-way.ensures.same ∙
+    ap (λ (n : State). run_on (code_of c.args.program.now n.thread) (length c.args.program.now.words) c.args.limits.now c.args.inputs.now c.args.full n) (sym stays))
 
 pub returns-then-is_err-clause-memory : goal.returns-then-is_err-clause-memory
 returns-then-is_err-clause-memory c =

@@ -16,8 +16,8 @@ loop-instr-preserved c =
     let at = slice_get-get_or code place halt c.if-place-self.true in
     record {
       same = λ s output taken. c.loop-instr.invariant.same s output taken ∙
-          goes_along code self.words (bounds_of self) self.inputs.now self.full (moved s c.loop-instr.registers place output self.steps instr taken) (moved s c.compute.new.registers c.in-Some.next output self.steps (instr + 1) taken)
-          i at (sym c.in-Some.ensures.local) c.loop-instr-test.true (c.in-Some.ensures.some s self.inputs.now output self.steps instr taken);
-      state = keeps_along code (bounds_of self) c.loop-instr.registers place instr c.compute.new.registers c.in-Some.next i c.requires.code c.requires.bounds at (sym c.in-Some.ensures.local) c.loop-instr-test.true
-          (c.in-Some.ensures.some (first_state 0) [] [] 0 instr 0) c.loop-instr.invariant.state;
+          goes_along code self.words (bounds_of self) self.inputs.now self.full (moved s c.loop-instr.registers place output self.steps instr taken) (moved s c.compute.new.registers c.in-Next.next output self.steps (instr + 1) taken)
+          i at c.in-Next.ensures.0 c.loop-instr-test.true (c.in-Next.ensures.1 s self.inputs.now output self.steps instr taken);
+      state = keeps_along code (bounds_of self) c.loop-instr.registers place instr c.compute.new.registers c.in-Next.next i c.requires.code c.requires.bounds at c.in-Next.ensures.0 c.loop-instr-test.true
+          (c.in-Next.ensures.1 (first_state 0) [] [] 0 instr 0) c.loop-instr.invariant.state;
     }

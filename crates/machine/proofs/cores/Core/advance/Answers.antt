@@ -3,7 +3,7 @@ use Rattle.std.specs.Prelude.{None, Some, IfOk, OnErr}
 use Rattle.machine.specs.Cores.{State}
 use Rattle.machine.proofs.Going.{settled_already}
 use Rattle.machine.proofs.Rests.{settled-none}
-use Rattle.machine.proofs.cores.Core.go_with.Goals as goal
+use Rattle.machine.proofs.cores.Core.advance.Goals as goal
 
 pub returns-in-Some-clause-ok : goal.returns-in-Some-clause-ok
 returns-in-Some-clause-ok c =
