@@ -177,6 +177,7 @@ impl<'p> Plain<'p> {
 
     /// Takes rounds until every thread has ended; in a round the threads 0, 1, 2 and so on take one step each, and
     /// ended ones are passed over. After an `Err` some first ones of these steps were taken.
+    #[inline(never)]
     pub fn turns(&mut self) -> Result<(), Memory>
         ensures ok { OnOk result (self.new ≡ after_turns self.old (round_turns (length self.old.program.threads) self.old.limits.steps)) }
         ensures over { OnOk result (IsOver self.new) }

@@ -1,9 +1,11 @@
 // What a plain machine keeps of one thread.
-ghost use Rattle.std.specs.Prelude.{◌≡◌, ◌+◌, ◌<◌, ◌≤◌, All, true, false, is_some, option_and_then, IsSome, IfOk, OnErr, length, Some};
+ghost use Rattle.std.specs.Prelude.{◌≡◌, ◌+◌, ◌<◌, ◌≤◌, All, true, false, option_and_then, IsSome, IfOk, OnErr, length, Some, None, vec_len, vec_capacity};
 ghost use Rattle.replay_model.specs.Steps.{found_in, has_ended, put, reads, word_of};
+ghost use Rattle.replay_model.specs.Steps as steps;
+ghost use Rattle.replay_model.specs.declared.Want.TheVariants.{Store};
 ghost use Rattle.machine.specs.Cores.{end_of, report_of};
 
-use crate::cells::{found_in, put, word_of, written};
+use crate::cells::{put, word_of, written};
 use dep_log::DepLog;
 use light_base::{Cell, Event, Memory};
 use machine::{Core, Inputs, Limits, Program, RunReport};
@@ -19,7 +21,7 @@ pub(crate) struct Seat {
 }
 
 impl Seat {
-    ghost use Rattle.history.specs.Playing.{run_core, IsFresh, Takes, Keeps};
+    ghost use Rattle.history.specs.Playing.{run_core, HasBegunRun, IsFresh, Takes, Keeps};
 
     // A thread at its start, with so many words and at most so many entries in its log.
     pub(crate) fn new(alloc: Global, thread: u8, words: u16, limit: u32) -> Result<Seat, Memory>
@@ -37,7 +39,7 @@ impl Seat {
         })
     }
 
-    // Runs the thread up to its next memory step or its end.
+    // Runs the thread up to its next memory step or its end; after an `Err` it may be on the way there.
     pub(crate) fn run(
         &mut self,
         program: &Program,
@@ -47,46 +49,59 @@ impl Seat {
         requires thread { self.old.core.thread < length program.now.threads }
         requires listed { length inputs.now ≡ length program.now.threads }
         ensures ok { IfOk result (λ wanted. (self.new ≡ record self.old { core = run_core program.now limits.now inputs.now self.old }) × (self.new.core.pending ≡ Some wanted)) }
-        ensures err { OnErr result (self.new ≡ self.old) }
+        ensures err { OnErr result (HasBegunRun program.now limits.now inputs.now self.old self.new) }
     {
         let full = self.log.is_full();
         let list = inputs.threads(usize::from(self.core.thread()));
-        self.core.go_with(program, limits, list, full)
+        self.core.advance(program, limits, list, full)
     }
 
-    // Takes the pending step, which found this.
-    fn take(&mut self, want: &Want, found: Option<Cell>) -> Result<Access, Memory>
+    // Takes the pending step, which read this cell and wrote this, if anything.
+    fn read(&mut self, want: &Want, cell: Cell, wrote: Option<u32>) -> Access
         requires pending { self.old.core.pending ≡ Some want.now }
-        requires lives { has_ended want.now ≡ false }
-        requires found { is_some found ≡ reads want.now }
+        requires reads { reads want.now ≡ true }
+        requires wrote { wrote ≡ steps.wrote want.now (Some cell) }
         requires room { self.old.core.steps < 268435455 }
         requires word { word_of want.now < self.old.log.words }
         requires later { All (λ entry. entry.last < self.old.core.steps + 1) self.old.log.entries }
-        requires entry { reads want.now ≡ true → length self.old.log.entries < self.old.log.limit }
-        ensures ok { IfOk result (λ access. Takes want.now found self.old access self.new) }
-        ensures err { OnErr result (Keeps self.old self.new) }
+        requires entry { length self.old.log.entries < self.old.log.limit }
+        requires place { vec_len self.old.accesses < vec_capacity self.old.accesses }
+        ensures { Takes want.now (Some cell) self.old result self.new }
     {
         let step = self.core.steps() + 1;
         let word = word_of(want);
-        let wrote = written(want, &found);
-        self.accesses.reserve(1)?;
-        let saw = found;
-        match found {
-            Some(cell) => {
-                self.log.saw(word, cell.tag, step);
-                self.core.found(cell);
-            }
-            None => self.core.stored(),
-        }
+        let saw = cell;
         let access = Access {
             step,
             word,
-            saw,
+            saw: Some(saw),
             wrote,
         };
         let told = access;
+        self.log.saw(word, cell.tag, step);
+        self.core.found(cell);
         self.accesses.push_reserved(access);
-        Ok(told)
+        told
+    }
+
+    // Takes the pending store.
+    fn store(&mut self, word: u16, value: u32) -> Access
+        requires pending { self.old.core.pending ≡ Some (Store word value) }
+        requires room { self.old.core.steps < 268435455 }
+        requires place { vec_len self.old.accesses < vec_capacity self.old.accesses }
+        ensures { Takes (Store word value) None self.old result self.new }
+    {
+        let step = self.core.steps() + 1;
+        let access = Access {
+            step,
+            word,
+            saw: None,
+            wrote: Some(value),
+        };
+        let told = access;
+        self.core.stored();
+        self.accesses.push_reserved(access);
+        told
     }
 
     // Takes the pending step of this thread on these cells.
@@ -109,8 +124,17 @@ impl Seat {
         ensures err { OnErr result (Keeps self.old self.new) }
         ensures same { OnErr result (cells.new ≡ cells.old) }
     {
-        let found = found_in(cells, want);
-        let access = self.take(want, found)?;
+        self.accesses.reserve(1)?;
+        let place = usize::from(word_of(want));
+        let access = match want {
+            Want::Store(word, value) => self.store(*word, *value),
+            _ => {
+                let found = Some(cells[place]);
+                let wrote = written(want, &found);
+                let cell = cells[place];
+                self.read(want, cell, wrote)
+            }
+        };
         let event = Event {
             thread,
             step: access.step,
@@ -138,7 +162,7 @@ impl Seat {
         } = self;
         let full = log.is_full();
         let list = inputs.threads(usize::from(core.thread()));
-        core.go_with(program, limits, list, full)?;
+        core.advance(program, limits, list, full)?;
         Ok(core.report())
     }
 }
