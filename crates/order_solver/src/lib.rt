@@ -18,7 +18,6 @@ mod sides;
 mod solving;
 mod taking;
 
-pub use finding::{Finding, MOST_SIDE_EDGES, Prepared, prepare, search_line};
-pub use guessing::guess_line;
+pub use finding::MOST_SIDE_EDGES;
 pub use rivals::Rivals;
 pub use solving::{Answer, Search, side_edges, solve};
