@@ -1,7 +1,7 @@
 //! The words of a memory: what a memory step finds there, and what it writes.
-ghost use Rattle.std.specs.Prelude.{◌≡◌, ◌<◌, IfOk, length};
+ghost use Rattle.std.specs.Prelude.{◌≡◌, ◌<◌, ◌≤◌, IfOk, length, slice_index_or, false, true};
 ghost use Rattle.light_base.specs.Tags.{HasTag};
-ghost use Rattle.replay_model.specs.Steps.{same_tag, word_of, wrote, put, initial_cells};
+ghost use Rattle.replay_model.specs.Steps.{same_tag, word_of, has_ended, wrote, found_in, put, initial_cells};
 
 use light_base::{Cell, Event, Memory, Tag};
 use replay_model::Want;
@@ -24,6 +24,19 @@ pub fn word_of(want: &Want) -> u16
         Want::Swap(word, _) => *word,
         Want::Cond(word, _, _) => *word,
         Want::Ended(_) => 0,
+    }
+}
+
+/// The cell that a reading step finds: the one in its word.
+pub fn found_in(cells: &[Cell], want: &Want) -> Option<Cell>
+    requires { has_ended want.now ≡ false → word_of want.now < length cells.now }
+    ensures { result ≡ found_in cells.now want.now }
+{
+    match want {
+        Want::Load(word) | Want::Swap(word, _) | Want::Cond(word, _, _) => {
+            Some(cells[usize::from(*word)])
+        }
+        Want::Store(_, _) | Want::Ended(_) => None,
     }
 }
 
