@@ -13,14 +13,15 @@ use Rattle.replay_model.specs.SkipPlay.{moves, turn}
 use Rattle.replay_model.proofs.Plays.{moves-push, moves-add}
 use Rattle.replay_laws.proofs.Endings.{moves_ended}
 use Rattle.machine.specs.Programs.{ProgramValue}
+use Rattle.machine.specs.Cores.{State}
 use Rattle.machine.specs.Laws.{taken_in}
 use Rattle.machine.specs.Runs.{state_after}
 use Rattle.machine.proofs.Runs.{ends_within}
 use Rattle.replayer.specs.declared.seat.Seat.{Seat}
 use Rattle.replayer.specs.KeptSteps.{begins_with, event_at}
 use Rattle.replayer.specs.Replays.{threads_by}
-use Rattle.replayer.specs.Seats.{IsAt, Takes, IsEndBefore, HasRun, HasStopped, HasRunOut, turned}
-use Rattle.replayer.proofs.Seats.{Ran, took-step}
+use Rattle.replayer.specs.Seats.{IsAt, HasBegunRun, Takes, IsEndBefore, HasRun, HasStopped, HasRunOut, turned}
+use Rattle.replayer.proofs.Seats.{Ran, begun-seat, took-step}
 
 -- the thread, which was at the start, has gone on to step n
 pub record IsRunning (p : ProgramValue) (log : Log) (t last n : ℕ) (cells_then cells : List Cell) (start seat : Seat) : Type 0 where
@@ -145,6 +146,25 @@ run-stopped p log t last n cells_then cells start seat is l world then = record 
 
     same : turned p log t seat.core.steps world ≡ here
     same = turned-is p log t seat.core.steps (n - start.core.steps) world (let c = then.seated.counted in let k = is.count in omega (arith, c, k))
+
+-- it was stopped on the way to its next step
+pub stopped-begun : (p : ProgramValue) (log : Log) (t last : ℕ) (world : World) (cells : List Cell) (old new : Seat) → HasStopped p log t last world cells old → HasBegunRun p log old new →
+    HasStopped p log t last world cells new
+stopped-begun p log t last world cells old new is begun = record {
+  before = let l = is.before in omega (arith, l, same);
+  at = subst (λ (k : ℕ). IsAt p log (turned p log t k world) t cells new) same (record {
+    rules = is.at.rules;
+    memory = is.at.memory;
+    sized = is.at.sized;
+    counted = is.at.counted;
+    there = is.at.there;
+    seated = begun-seat p log t (steps_of (turned p log t old.core.steps world).threads t) old new is.at.seated begun;
+  });
+  again = subst (λ (k : ℕ). turned p log t last (turned p log t k world) ≡ turned p log t last world) same is.again;
+}
+  where
+    same : old.core.steps ≡ new.core.steps
+    same = ap (λ (s : State). s.steps) begun.core.rest
 
 no_moves : (p : ProgramValue) (log : Log) (t : ℕ) (world : World) → moves (threads_by p log) (keeps log) 0 t world ≡ world
 unfolding moves

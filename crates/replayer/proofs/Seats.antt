@@ -30,7 +30,7 @@ use Rattle.dep_log.specs.DepLogs.{DepLogState, no_entries}
 use Rattle.replayer.specs.declared.seat.Seat.{Seat}
 use Rattle.replayer.specs.KeptSteps.{begins_with, past, event_at, AreLeft}
 use Rattle.replayer.specs.Replays.{threads_by}
-use Rattle.replayer.specs.Seats.{run_core, IsSeat, IsAt, Takes}
+use Rattle.replayer.specs.Seats.{run_core, HasBegunRun, IsSeat, IsAt, Takes}
 use Rattle.replayer.proofs.Cursors.{Advances, left-step}
 
 -- a thread at its start has taken no step
@@ -50,6 +50,19 @@ pub run_core-is : (p : ProgramValue) (log : Log) (t : ℕ) (steps : List Step) (
 run_core-is p log t steps seat is =
     ap (λ (u : ℕ). settled p log.limits (inputs_of (taken_in log) u) (nat_le seat.seen.limit (length seat.seen.entries)) seat.core) is.thread ∙
     ap (λ (seen : DepLogState). settled p log.limits (inputs_of (taken_in log) t) (nat_le seen.limit (length seen.entries)) seat.core) is.seen ∙ is.core
+
+-- on the way there it is what its steps made of it
+pub begun-seat : (p : ProgramValue) (log : Log) (t : ℕ) (steps : List Step) (old new : Seat) → IsSeat p log t steps old → HasBegunRun p log old new → IsSeat p log t steps new
+begun-seat p log t steps old new is begun = record {
+  core =
+      sym (ap (λ (u : ℕ). settled p log.limits (inputs_of (taken_in log) u) (nat_le old.seen.limit (length old.seen.entries)) new.core) is.thread ∙
+      ap (λ (seen : DepLogState). settled p log.limits (inputs_of (taken_in log) t) (nat_le seen.limit (length seen.entries)) new.core) is.seen) ∙
+      begun.core.leads ∙ run_core-is p log t steps old is;
+  thread = sym (ap (λ (s : State). s.thread) begun.core.rest) ∙ is.thread;
+  counted = sym (ap (λ (s : State). s.steps) begun.core.rest) ∙ is.counted;
+  seen = ap (λ (s : Seat). s.seen) begun.rest ∙ is.seen;
+  kept = subst (λ (s : Seat). AreLeft log t (length steps) s.kept) (sym begun.rest) is.kept;
+}
 
 -- a thread that ran up to what it wants
 pub record Ran (p : ProgramValue) (log : Log) (world : World) (t : ℕ) (cells : List Cell) (wanting : Want) (new : Seat) : Type 0 where

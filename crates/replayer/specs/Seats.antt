@@ -14,6 +14,7 @@ use Rattle.replay_model.specs.RunLogs.{last_tags}
 use Rattle.machine.specs.Programs.{ProgramValue, IsProgram}
 use Rattle.machine.specs.Inputs.{inputs_of}
 use Rattle.machine.specs.Cores.{State, settled, took, end_of, end_or_halted, report_of}
+use Rattle.machine.specs.Turns.{IsUnderWay}
 use Rattle.machine.specs.Laws.{taken_in}
 use Rattle.machine.specs.Runs.{state_after}
 use Rattle.dep_log.specs.AccessLogs.{with_found}
@@ -27,6 +28,11 @@ use Rattle.replayer.specs.KeptSteps.{past, AreLeft}
 -- the core after it ran up to its next step or its end
 abbrev pub run_core : ProgramValue → Log → Seat → State
 run_core p log seat = settled p log.limits (inputs_of (taken_in log) seat.core.thread) (nat_le seat.seen.limit (length seat.seen.entries)) seat.core
+
+-- the core ran a part of the way to its next step or its end
+pub record HasBegunRun (p : ProgramValue) (log : Log) (old new : Seat) : Type 0 where
+  pub core : IsUnderWay p log.limits (inputs_of (taken_in log) old.core.thread) (nat_le old.seen.limit (length old.seen.entries)) old.core new.core
+  pub rest : new ≡ record old { core = new.core }
 
 -- what is kept of thread t is what these steps made of it, but for local instructions that are left
 pub record IsSeat (p : ProgramValue) (log : Log) (t : ℕ) (steps : List Step) (seat : Seat) : Type 0 where

@@ -39,7 +39,7 @@ fn inputs_of(log: &RunLog, thread: u8) -> &[u32]
 }
 
 impl Seat {
-    ghost use Rattle.replayer.specs.Seats.{run_core, IsSeat, IsAt, Takes, HasRun, HasStopped, HasRunOut, HasEnded, seat_part};
+    ghost use Rattle.replayer.specs.Seats.{run_core, HasBegunRun, IsSeat, IsAt, Takes, HasRun, HasStopped, HasRunOut, HasEnded, seat_part};
 
     // A thread at its start.
     pub(crate) fn new(
@@ -59,17 +59,17 @@ impl Seat {
         })
     }
 
-    // Runs the thread up to its next memory step or its end.
+    // Runs the thread up to its next memory step or its end; after an `Err` it may be on the way there.
     fn run(&mut self, program: &Program, log: &RunLog) -> Result<Want, Memory>
         requires thread { self.old.core.thread < length program.now.threads }
         requires counted { length program.now.threads ≡ length log.now.threads }
         ensures ok { IfOk result (λ wanted. (self.new ≡ record self.old { core = run_core program.now log.now self.old }) × (self.new.core.pending ≡ Some wanted)) }
-        ensures err { OnErr result (self.new ≡ self.old) }
+        ensures err { OnErr result (HasBegunRun program.now log.now self.old self.new) }
         ensures rules { IsWellFormed log.now }
     {
         let inputs = inputs_of(log, self.core.thread());
         let full = self.seen.is_full();
-        self.core.go_with(program, log.limits(), inputs, full)
+        self.core.advance(program, log.limits(), inputs, full)
     }
 
     // Makes the write of the next step, if it writes and the log names it.

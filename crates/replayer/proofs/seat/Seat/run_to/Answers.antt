@@ -11,7 +11,7 @@ use Rattle.dep_log.specs.DepLogs.{DepLogState}
 use Rattle.history.proofs.Steps.{lives_from}
 use Rattle.replayer.specs.Seats.{IsAt, HasStopped}
 use Rattle.replayer.proofs.Seats.{Ran, ran, word-there, room-there, entries-earlier, step-event}
-use Rattle.replayer.proofs.Running.{IsRunning, running-start, running-step, run-done, run-short, run-stopped}
+use Rattle.replayer.proofs.Running.{IsRunning, running-start, running-step, run-done, run-short, run-stopped, stopped-begun}
 use Rattle.replayer.proofs.seat.Seat.run_to.Goals as goal
 
 pub loop-step-init : goal.loop-step-init
@@ -24,8 +24,9 @@ returns-in_err-want-clause-err c =
     let P : Type 0 = (world : World) → IsAt c.args.program.now c.args.log.now world c.args.self.now.core.thread c.args.cells.now c.args.self.now →
     HasStopped c.args.program.now c.args.log.now c.args.self.now.core.thread c.args.last world c.loop-step.cells c.run.new.self in
     on_err {P = P} _ (λ world at.
-    subst (HasStopped c.args.program.now c.args.log.now c.args.self.now.core.thread c.args.last world c.loop-step.cells) (sym c.in_err-want.ensures.err)
-    (run-stopped c.args.program.now c.args.log.now c.args.self.now.core.thread c.args.last c.loop-step._step c.args.cells.now c.loop-step.cells c.args.self.now c.loop-step.self c.loop-step.invariant c.loop-step-test.true world at))
+    stopped-begun c.args.program.now c.args.log.now c.args.self.now.core.thread c.args.last world c.loop-step.cells c.loop-step.self c.run.new.self
+    (run-stopped c.args.program.now c.args.log.now c.args.self.now.core.thread c.args.last c.loop-step._step c.args.cells.now c.loop-step.cells c.args.self.now c.loop-step.self c.loop-step.invariant c.loop-step-test.true world at)
+    c.in_err-want.ensures.err)
 
 pub returns-in-Ended-clause-ok : goal.returns-in-Ended-clause-ok
 returns-in-Ended-clause-ok c =
