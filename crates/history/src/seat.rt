@@ -143,7 +143,8 @@ impl Seat {
         Ok(access)
     }
 
-    // How the thread ended, and what it did.
+    // How the thread ended, and what it did. A loop of local instructions is fastest in a function of its own.
+    #[inline(never)]
     pub(crate) fn into_report(
         self,
         program: &Program,
