@@ -147,6 +147,8 @@ COMMANDS = [
     (["run", "i", *ENOUGH, "n"], []),
     (["record", "i", "l2", *ENOUGH], ["l2"]),
     (["record", "i", "l2", *ENOUGH, "n"], ["l2"]),
+    (["record", "i", "l2", *ENOUGH, "2", "3"], ["l2"]),
+    (["record", "i", "l2", *ENOUGH, "2", "3", "n"], ["l2"]),
     (["show", "l"], []),
     (["upgrade", "old", "l2"], ["l2"]),
     (["solve", "l", "s2", "1000"], ["s2"]),

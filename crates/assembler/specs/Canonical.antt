@@ -38,7 +38,8 @@ number_text false n = []
 
 abbrev pub instr_line : Instr → List ℕ
 instr_line i =
-    mnemonic_of i.op ++ register_text (uses_a i.op) i.a ++ register_text (uses_b i.op) i.b ++ register_text (uses_c i.op) i.c ++ number_text (uses_imm i.op) i.imm ++ line_end
+    mnemonic_of i.op ++ register_text (uses_a i.op) i.a ++ register_text (uses_b i.op) i.b ++ register_text (uses_c i.op) i.c ++
+    number_text (uses_imm i.op) i.imm ++ line_end
 
 abbrev pub thread_text : List Instr → List ℕ
 thread_text code = codes ".thread" ++ line_end ++ flat_map instr_line code

@@ -1,5 +1,6 @@
 -- Small texts, and what the definitions say of them.
 use Rattle.std.specs.Prelude.{◌≡◌, ℕ, List, [], ◌∷◌, ◌++◌, codes, replicate, Ok, Err}
+use Rattle.std.specs.List.{flat_map}
 use Rattle.machine.specs.declared.program.Instr.{Instr}
 use Rattle.machine.specs.declared.program.Op.{Op}
 use Rattle.machine.specs.declared.program.Op.TheVariants as op
@@ -28,11 +29,13 @@ IsRefused text line k = assembled text ≡ Err (line_fault line k)
 -- comments, commas, a label, capital letters and an empty line are read
 abbrev pub MessageIsRead : Type 0
 MessageIsRead =
-    assembled (codes "; message passing\n.words 2\n.thread\nset r1, 42\nSTORE r1 R0 0 ; the value\n\nset r2 0x01\nstore r2 r0 1\n.thread\nwait: load r1 r0 1\njeq r1 r0 wait\nload r2 r0 0\nout r2") ≡ Ok message_passing
+    assembled (codes "; message passing\n.words 2\n.thread\nset r1, 42\nSTORE r1 R0 0 ; the value\n\nset r2 0x01\nstore r2 r0 1\n" ++
+    codes ".thread\nwait: load r1 r0 1\njeq r1 r0 wait\nload r2 r0 0\nout r2") ≡ Ok message_passing
 
 abbrev pub MessageIsListed : Type 0
 MessageIsListed =
-    canonical message_passing ≡ codes ".words 2\n.thread\nset r1 42\nstore r1 r0 0\nset r2 1\nstore r2 r0 1\n.thread\nload r1 r0 1\njeq r1 r0 0\nload r2 r0 0\nout r2\n"
+    canonical message_passing ≡
+    codes ".words 2\n.thread\nset r1 42\nstore r1 r0 0\nset r2 1\nstore r2 r0 1\n.thread\nload r1 r0 1\njeq r1 r0 0\nload r2 r0 0\nout r2\n"
 
 -- initial values, of which a later one wins; without `.words` there are 16 words
 abbrev pub ValuesAreRead : Type 0
@@ -67,7 +70,9 @@ every_instr =
 
 abbrev pub every_line : List ℕ
 every_line =
-    codes ".words 1\n.thread\nhalt\nset r1 2\nmov r3 r4\nadd r5 r6 r7\nsub r8 r9 r10\nmul r11 r12 r13\nand r14 r15 r0\nor r1 r2 r3\nxor r4 r5 r6\nshl r7 r8 r9\nshr r10 r11 r12\naddi r13 r14 15\njmp 16\njeq r1 r2 17\njne r3 r4 18\njlt r5 r6 19\nout r7\nload r8 r9 20\nstore r10 r11 21\nxchg r12 r13 22\ncas r14 r15 r1 23\nin r2\n"
+    codes ".words 1\n.thread\nhalt\nset r1 2\nmov r3 r4\nadd r5 r6 r7\nsub r8 r9 r10\nmul r11 r12 r13\n" ++
+    codes "and r14 r15 r0\nor r1 r2 r3\nxor r4 r5 r6\nshl r7 r8 r9\nshr r10 r11 r12\naddi r13 r14 15\n" ++
+    codes "jmp 16\njeq r1 r2 17\njne r3 r4 18\njlt r5 r6 19\nout r7\nload r8 r9 20\nstore r10 r11 21\nxchg r12 r13 22\ncas r14 r15 r1 23\nin r2\n"
 
 abbrev pub every_operation : ProgramValue
 every_operation = record { words = 0 ∷ []; threads = every_instr ∷ [] }
@@ -101,10 +106,14 @@ LabelsAreOnce = IsRefused (codes ".thread\nx: halt\nx: halt") 3 kind.LabelTwice 
 abbrev pub TargetsAreTested : Type 0
 TargetsAreTested = IsRefused (codes ".words 1\n.thread\njmp nowhere") 3 kind.Undefined × IsRefused (codes ".thread\njlt r0 r0 X\nx: halt") 2 kind.Undefined
 
+-- so many lines `.thread`
+abbrev pub thread_lines : ℕ → List ℕ
+thread_lines n = flat_map (λ (line : List ℕ). line) (replicate n (codes ".thread\n"))
+
 abbrev pub ThreadsAreCounted : Type 0
 ThreadsAreCounted =
-    IsRefused (codes ".thread\n.thread\n.thread\n.thread\n.thread\n.thread\n.thread\n.thread\n.thread\n.thread\n.thread\n.thread\n.thread\n.thread\n.thread\n.thread") 16 kind.TooMany
-    × IsRefused (codes ".words 1\n.thread\n.thread\n.thread\n.thread\n.thread\n.thread\n.thread\n.thread\n.thread\n.thread\n.thread\n.thread\n.thread\n.thread\n.thread\n.thread\nhalt") 17 kind.TooMany
+    IsRefused (thread_lines 15 ++ codes ".thread") 16 kind.TooMany
+    × IsRefused (codes ".words 1\n" ++ thread_lines 16 ++ codes "halt") 17 kind.TooMany
 
 abbrev pub ThreadsAreWanted : Type 0
 ThreadsAreWanted = IsRefused (codes "x: halt") 1 kind.NoThread × IsRefused (codes "jmp 0") 1 kind.NoThread
@@ -119,7 +128,7 @@ OrderIsKept =
     × IsRefused (codes ".thread\n.init 0 99999999999") 2 kind.Mnemonic
     × IsRefused (codes ".thread\nset r99 4294967296") 2 kind.Operand
     × IsRefused (codes ".thread\njmp nowhere 0") 2 kind.Operand
-    × IsRefused (codes ".thread\n.thread\n.thread\n.thread\n.thread\n.thread\n.thread\n.thread\n.thread\n.thread\n.thread\n.thread\n.thread\n.thread\n.thread\n.thread 1") 16 kind.Operand
+    × IsRefused (thread_lines 15 ++ codes ".thread 1") 16 kind.Operand
 
 -- a target is tested against the whole thread, up to the next line whose item begins with `.thread`; lines at fault count, and directives do not
 abbrev pub PlacesAreCounted : Type 0

@@ -25,7 +25,11 @@ pub record Registers : Type 0 where
 -- a, b and c in this order, each where the operation uses it
 abbrev pub registers_of : Op → List (List ℕ) → Option Registers
 registers_of o tokens =
-    option_and_then (λ a. option_and_then (λ b. option_map (λ c. record { a = a.0; b = b.0; c = c.0; rest = c.1 }) (take_register (uses_c o) b.1)) (take_register (uses_b o) a.1)) (take_register (uses_a o) tokens)
+    option_and_then
+    (λ a. option_and_then
+    (λ b. option_map (λ c. record { a = a.0; b = b.0; c = c.0; rest = c.1 }) (take_register (uses_c o) b.1))
+    (take_register (uses_b o) a.1))
+    (take_register (uses_a o) tokens)
 
 -- the greatest number that may stand: 4,294,967,295, and as a target the thread's length
 abbrev pub greatest : Bool → ℕ → ℕ

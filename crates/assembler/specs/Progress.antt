@@ -38,7 +38,9 @@ take_words p operands = with_words p (one_number operands)
 -- `.init W V`: the initial value of a word
 abbrev pub with_value : Progress → Option (ℕ × ℕ) → Result Progress AsmKind
 with_value p None = Err kind.Operand
-with_value p (Some n) = if nat_lt n.0 (length p.words) && nat_le n.1 4294967295 then Ok (record p { words = slice_set p.words n.0 n.1; is_fresh = false }) else Err kind.Number
+with_value p (Some n) =
+    if nat_lt n.0 (length p.words) && nat_le n.1 4294967295 then Ok (record p { words = slice_set p.words n.0 n.1; is_fresh = false })
+    else Err kind.Number
 
 abbrev pub take_init : Progress → List (List ℕ) → Result Progress AsmKind
 take_init p operands = with_value p (two_numbers operands)
@@ -49,7 +51,9 @@ ended p = record p { done = threads_of p; code = [] }
 
 -- `.thread`: the next thread, at most fifteen; its scope is that of the lines that follow
 abbrev pub take_thread : Progress → ℕ → List (List ℕ) → List (List ℕ) → Result Progress AsmKind
-take_thread p line [] lines = if nat_le 15 (length (threads_of p)) then Err kind.TooMany else Ok (record (ended p) { is_fresh = false; has_begun = true; scope = scope_from no_scope (line + 1) lines })
+take_thread p line [] lines =
+    if nat_le 15 (length (threads_of p)) then Err kind.TooMany
+    else Ok (record (ended p) { is_fresh = false; has_begun = true; scope = scope_from no_scope (line + 1) lines })
 take_thread p line (o ∷ operands) lines = Err kind.Operand
 
 -- an instruction, at most 4,096 a thread
@@ -69,6 +73,10 @@ take_item p line head.Thread operands lines = take_thread p line operands lines
 take_item p line (head.Operation o) operands lines = take_instr p o operands
 take_item p line head.Unknown operands lines = Err kind.Mnemonic
 
+-- the item of a line with these parts
+abbrev pub take_item_of : Progress → ℕ → Parts → List (List ℕ) → Result Progress AsmKind
+take_item_of p line parts lines = take_item p line parts.head parts.operands lines
+
 -- the label's name is not formed as a name, or a directive follows it
 abbrev pub has_bad_label : Parts → Bool
 has_bad_label parts = elim parts.label as (λ _. Bool) [ None ↦ false | Some name ↦ not (is_name name) || is_directive parts.head ]
@@ -83,7 +91,7 @@ take_parts p line parts lines =
     if has_bad_label parts then Err kind.Label
     else if wants_thread parts && not p.has_begun then Err kind.NoThread
     else if is_twice p.scope.labels line parts.label then Err kind.LabelTwice
-    else take_item p line parts.head parts.operands lines
+    else take_item_of p line parts lines
 
 -- what stands after the line, or what is wrong with it first
 abbrev pub take_line : Progress → ℕ → List ℕ → List (List ℕ) → Result Progress AsmKind

@@ -8,7 +8,14 @@ use Rattle.assembler.specs.Progress.{Progress}
 use Rattle.assembler.specs.Seen.{scope_seen}
 
 abbrev pub progress_of : Assembly → Progress
-progress_of a = record { words = a.words.items; is_fresh = a.is_fresh; has_begun = a.has_begun; done = code_lists a.done.items; code = a.code.items; scope = scope_seen a.scope }
+progress_of a = record {
+  words = a.words.items;
+  is_fresh = a.is_fresh;
+  has_begun = a.has_begun;
+  done = code_lists a.done.items;
+  code = a.code.items;
+  scope = scope_seen a.scope;
+}
 
 -- a step did what the definition says, or memory was refused: it came to the new value, or found this fault
 abbrev pub Takes : {T : Type 0} → Result Progress AsmKind → Result T AsmKind → Progress → Type 0

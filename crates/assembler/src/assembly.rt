@@ -27,7 +27,8 @@ pub struct Assembly<'a> {
 
 impl<'a> Assembly<'a> {
     ghost use Rattle.assembler.specs.Labels.{is_twice};
-    ghost use Rattle.assembler.specs.Progress.{start, threads_of, ended, take_words, take_init, take_thread, take_instr, take_item, take_parts, take_line};
+    ghost use Rattle.assembler.specs.Progress.{start, threads_of, ended, take_words, take_init, take_thread, take_instr};
+    ghost use Rattle.assembler.specs.Progress.{take_item_of, take_line};
     ghost use Rattle.assembler.specs.SeenProgress.{progress_of, Takes};
     ghost use Rattle.assembler.specs.Seen.{parts_seen, scope_seen};
 
@@ -144,7 +145,7 @@ impl<'a> Assembly<'a> {
         after: &'a [u8],
     ) -> Result<(), AsmKind>
         requires { line + 1 + length after.now < 2 ^ 32 }
-        ensures { Takes (take_item (progress_of self.old) line (parts_seen parts.entry).head (parts_seen parts.entry).operands (lines_of after.entry.now)) result (progress_of self.new) }
+        ensures { Takes (take_item_of (progress_of self.old) line (parts_seen parts.entry) (lines_of after.entry.now)) result (progress_of self.new) }
     {
         match parts.head {
             Head::Nothing => Ok(()),

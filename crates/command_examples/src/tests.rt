@@ -7,11 +7,13 @@ mod arenas;
 mod contents;
 mod cuts;
 mod faults;
+mod gates;
 mod histories;
 mod inputs;
 mod logs;
 mod orders;
 mod outputs;
+mod races;
 mod recordings;
 mod replays;
 mod rows;
@@ -24,7 +26,7 @@ mod told;
 mod usages;
 
 use contents::Content;
-use rows::{Row, check, words_of};
+use rows::{Row, check};
 
 #[test]
 fn commands_end_as_told(rt: HostRuntime) -> Result<(), Fail> {
@@ -142,6 +144,17 @@ fn logs_are_replayed(rt: HostRuntime) -> Result<(), Fail> {
 }
 
 #[test]
+fn races_are_listed(rt: HostRuntime) -> Result<(), Fail> {
+    let alloc = rt.alloc();
+    for table in [races::LISTED.as_slice(), races::STOPPED.as_slice()] {
+        for row in table {
+            check(&rt, alloc, row)?;
+        }
+    }
+    races::list_many(&rt, alloc)
+}
+
+#[test]
 fn words_that_are_no_command(rt: HostRuntime) -> Result<(), Fail> {
     let alloc = rt.alloc();
     for words in usages::USAGES {
@@ -184,21 +197,12 @@ fn numbers_and_lines_of_statuses(rt: HostRuntime) -> Result<(), Fail> {
     Ok(())
 }
 
-// Two threads that wait for each other end only where both run: one after the other, the first would take all its steps.
 #[test]
-fn threads_are_recorded_side_by_side(rt: HostRuntime) -> Result<(), Fail> {
+fn threads_pass_the_gate(rt: HostRuntime) -> Result<(), Fail> {
     let alloc = rt.alloc();
-    let words = words_of(alloc, "record i l 268435455 1073741824 16384")?;
-    let mut store = MemStore::new(alloc, Vec::new(alloc));
-    store.put_file("i", &contents::bytes_of(alloc, contents::TWO_FLAGS)?)?;
-    let mut out = MemSink::new(alloc, 1000, Vec::new(alloc));
-    let status = light(&rt, alloc, &words, &mut store, &mut out, &OpenGate);
-    assert_eq!(rt; status, Status::Ok);
-    assert!(rt; store.file("l").is_some());
-    let text = String::from_utf8(Vec::from_slice(alloc, out.taken())?)?;
-    assert!(rt; text.as_str().starts_with("thread 0 halted steps "));
-    assert!(rt; text.as_str().contains("\nthread 1 halted steps "));
-    assert!(rt; text.as_str().ends_with("\nword 0 1\nword 1 1\n"));
+    for row in &gates::GATED {
+        gates::pass(&rt, alloc, row)?;
+    }
     Ok(())
 }
 
@@ -208,5 +212,7 @@ fn searches_take_their_memory_first(rt: HostRuntime) -> Result<(), Fail> {
     for row in &searches::SEARCHED {
         searches::search(&rt, alloc, row)?;
     }
-    searches::count_side_edges(&rt, alloc)
+    searches::count_sides(&rt, alloc)?;
+    searches::constrain(&rt, alloc)?;
+    searches::constrain_least(&rt, alloc)
 }

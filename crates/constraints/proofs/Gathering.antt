@@ -21,13 +21,13 @@ use Rattle.constraints.specs.declared.reads.Key.{Key}
 use Rattle.constraints.specs.contracts.reads.ReadPartialEq.TheImpl as reads
 use Rattle.constraints.specs.contracts.reads.KeyPartialEq.TheImpl as keys
 use Rattle.constraints.specs.Positions.{event_list, event_at, position_of}
-use Rattle.constraints.specs.Constraints.{sources_of, lasts_from}
+use Rattle.constraints.specs.Constraints.{sources_of, last_reads_from}
 use Rattle.constraints.specs.Building.{placed_in, placed_entries, read_of, key_of, read_cmp, key_cmp, AreInOrder, AreReadsInOrder, AreReads, AreKeys}
 use Rattle.constraints.proofs.Members.{of_map, in_map}
 use Rattle.constraints.proofs.Listed.{in_list, event-position, position-event}
 use Rattle.constraints.proofs.Strict.{deduped, nat_ties, of_filter_map, in_filter_map}
 use Rattle.constraints.proofs.Placing.{of_placed, in_placed}
-use Rattle.constraints.proofs.Sources.{source_in, of_sources, in_sources, of_lasts, in_lasts}
+use Rattle.constraints.proofs.Sources.{source_in, of_sources, in_sources, of_last_reads, in_last_reads}
 
 abbrev pub same_read : Read → Read → Bool
 same_read = (reads.ghosts).eq
@@ -96,18 +96,18 @@ kept {X} {R} o {E} ties same xs x c =
     Contains-dedup e same xs x c
 
 -- the reads that entries by positions give
-of_read : (log : Log) → IsWellFormed log → (r : Read) → Contains (filter_map read_of (placed_entries log)) r → Contains (sources_of log r.word) r.source × Contains (lasts_from log r.word r.source) r.last
+of_read : (log : Log) → IsWellFormed log → (r : Read) → Contains (filter_map read_of (placed_entries log)) r → Contains (sources_of log r.word) r.source × Contains (last_reads_from log r.word r.source) r.last
 of_read log formed r c =
     let (p, m, q) = of_filter_map read_of (placed_entries log) r c in
     let (t, a, h, e) = of_placed log p m in
     by t a h a.source refl (let P : Placed → Type 0 = λ p. read_of p ≡ Some r in subst P (sym e) q)
   where
-    by : (t : ℕ) (a : Entry) → HasEntry log t a → (tag : Tag) → a.source ≡ tag → read_of (placed_in (event_list log) t a) ≡ Some r → Contains (sources_of log r.word) r.source × Contains (lasts_from log r.word r.source) r.last
+    by : (t : ℕ) (a : Entry) → HasEntry log t a → (tag : Tag) → a.source ≡ tag → read_of (placed_in (event_list log) t a) ≡ Some r → Contains (sources_of log r.word) r.source × Contains (last_reads_from log r.word r.source) r.last
     by t a h None q g =
         let P : Tag → Type 0 = λ tag. option_map (λ s. read a.word s (position_of log (last_event t a))) (option_map (position_of log) tag) ≡ Some r in
         no (subst P q g)
       where
-        no : None ≡ Some r → Contains (sources_of log r.word) r.source × Contains (lasts_from log r.word r.source) r.last
+        no : None ≡ Some r → Contains (sources_of log r.word) r.source × Contains (last_reads_from log r.word r.source) r.last
         no e = cc
     by t a h (Some x) q g =
         let P : Tag → Type 0 = λ tag. option_map (λ s. read a.word s (position_of log (last_event t a))) (option_map (position_of log) tag) ≡ Some r in
@@ -119,16 +119,16 @@ of_read log formed r c =
         one : (u v : Read) → Some u ≡ Some v → u ≡ v
         one u v k = cc
 
-        yes : Some (read a.word (position_of log x) (position_of log (last_event t a))) ≡ Some r → Contains (sources_of log r.word) r.source × Contains (lasts_from log r.word r.source) r.last
+        yes : Some (read a.word (position_of log x) (position_of log (last_event t a))) ≡ Some r → Contains (sources_of log r.word) r.source × Contains (last_reads_from log r.word r.source) r.last
         yes k =
-            let Q : Read → Type 0 = λ u. Contains (sources_of log u.word) u.source × Contains (lasts_from log u.word u.source) u.last in
+            let Q : Read → Type 0 = λ u. Contains (sources_of log u.word) u.source × Contains (last_reads_from log u.word u.source) u.last in
             subst Q (one (read a.word (position_of log x) (position_of log (last_event t a))) r k)
-            (in_sources log formed a.word t a x h refl q, in_lasts log formed a.word (position_of log x) t a h refl (q ∙ ap Some (sym at)))
+            (in_sources log formed a.word t a x h refl q, in_last_reads log formed a.word (position_of log x) t a h refl (q ∙ ap Some (sym at)))
 
-in_read : (log : Log) → IsWellFormed log → (word source last : ℕ) → Contains (sources_of log word) source → Contains (lasts_from log word source) last →
+in_read : (log : Log) → IsWellFormed log → (word source last : ℕ) → Contains (sources_of log word) source → Contains (last_reads_from log word source) last →
     Contains (filter_map read_of (placed_entries log)) (read word source last)
 in_read log formed word source last c d =
-    let (l, (t, a, h, w, q, e)) = of_lasts log word source last d in
+    let (l, (t, a, h, w, q, e)) = of_last_reads log word source last d in
     let s : source < length (event_list log) = (of_sources log word source c).0 in
     let x : position_of log (event_at log source) ≡ source = position-event log source s in
     let y : position_of log (last_event t a) ≡ last = ap (position_of log) e ∙ position-event log last l in
@@ -199,6 +199,6 @@ keys_sorted log formed reads xs zs are q d =
     all : (word source : ℕ) → Contains (sources_of log word) source → Contains (dedup same_key (map key_of reads)) (record { word = word; source = source })
     all word source c =
         let (l, (t, a, h, w, s)) = of_sources log word source c in
-        let m = in_lasts log formed word source t a h w s in
+        let m = in_last_reads log formed word source t a h w s in
         kept key_total key_ties same_key-same (map key_of reads) (record { word = word; source = source })
         (in_map key_of reads (record { word = word; source = source; last = position_of log (last_event t a) }) (are.all word source (position_of log (last_event t a)) c m))

@@ -44,4 +44,4 @@ keeps_along log one other formed along k = record {
     two ea eb ec ed (inr h) = inr (up ec ed h)
 
     last_tag_in : (t : ℕ) (a : Entry) (z : Event) → HasEntry log t a → last_tag log a.word ≡ Some z → IsEvent log z
-    last_tag_in t a z c q = inl (inr (a.word, (entry_is log formed t a c).word, get_or_default log.lasts a.word (Some z) None (entry_is log formed t a c).word ∙ q))
+    last_tag_in t a z c q = inl (inr (a.word, (entry_is log formed t a c).word, get_or_default log.last_tags a.word (Some z) None (entry_is log formed t a c).word ∙ q))

@@ -1,4 +1,4 @@
--- The rows of lasts, one for each key, are those of each word's sources.
+-- The rows of last reads, one for each key, are those of each word's sources.
 use Rattle.std.proofs.Common.{◌≡◌, ℕ, suc, ◌+◌, ◌-◌, ◌<◌, ◌≤◌, Ordering, nat_cmp, List, [], ◌∷◌, ◌++◌, length, get_or, take, map, refl, sym, ◌∙◌, ap, subst, arith}
 use Rattle.std.specs.Prelude.{Contains}
 use Rattle.std.specs.Ordering.{ordering_then, ordering_reverse}
@@ -12,7 +12,7 @@ use Rattle.replay_model.specs.Logs.{Log}
 use Rattle.replay_model.specs.WellFormed.{IsWellFormed}
 use Rattle.constraints.specs.declared.reads.Read.{Read}
 use Rattle.constraints.specs.declared.reads.Key.{Key}
-use Rattle.constraints.specs.Constraints.{sources_of, lasts_from}
+use Rattle.constraints.specs.Constraints.{sources_of, last_reads_from}
 use Rattle.constraints.specs.Rows.{cut, rows_of, AreStarts}
 use Rattle.constraints.specs.Building.{key_cmp, is_read_up_to, AreInOrder, AreReadsInOrder, AreKeys, AreReads, last_rows}
 use Rattle.constraints.proofs.Members.{AllPairs-map, AllPairs-flat_map, of_flat_map, in_flat_map, of_map, in_map, in_range, range-rising}
@@ -68,9 +68,9 @@ key_asym a b p q = let e : key_cmp a b ≡ ordering_reverse (key_cmp b a) = key_
     no h = cc
 
 -- the keys are those of the sources, word after word
-pub keys_listed : (log : Log) → IsWellFormed log → (keys : List Key) → AreInOrder keys → AreKeys log keys → keys ≡ flat_map (λ word. map (key word) (sources_of log word)) (range_with_len 0 (length log.lasts))
-keys_listed log formed keys h are = same_ordered (λ a b. key_cmp a b ≡ Less) key_asym keys (flat_map (λ word. map (key word) (sources_of log word)) (range_with_len 0 (length log.lasts))) h
-    (AllPairs-flat_map (λ word. map (key word) (sources_of log word)) (λ a b. key_cmp a b ≡ Less) (λ v w. v < w) within across (range_with_len 0 (length log.lasts)) (range-rising 0 (length log.lasts)))
+pub keys_listed : (log : Log) → IsWellFormed log → (keys : List Key) → AreInOrder keys → AreKeys log keys → keys ≡ flat_map (λ word. map (key word) (sources_of log word)) (range_with_len 0 (length log.last_tags))
+keys_listed log formed keys h are = same_ordered (λ a b. key_cmp a b ≡ Less) key_asym keys (flat_map (λ word. map (key word) (sources_of log word)) (range_with_len 0 (length log.last_tags))) h
+    (AllPairs-flat_map (λ word. map (key word) (sources_of log word)) (λ a b. key_cmp a b ≡ Less) (λ v w. v < w) within across (range_with_len 0 (length log.last_tags)) (range-rising 0 (length log.last_tags)))
     there back
   where
     same_word : (word s t : ℕ) → s < t → key_cmp (key word s) (key word t) ≡ Less
@@ -90,27 +90,27 @@ keys_listed log formed keys h are = same_ordered (λ a b. key_cmp a b ≡ Less) 
         let G : Key → Type 0 = λ k. key_cmp x k ≡ Less in
         subst G q (subst F p e)
 
-    there : (x : Key) → Contains keys x → Contains (flat_map (λ word. map (key word) (sources_of log word)) (range_with_len 0 (length log.lasts))) x
+    there : (x : Key) → Contains keys x → Contains (flat_map (λ word. map (key word) (sources_of log word)) (range_with_len 0 (length log.last_tags))) x
     there x c =
         let m = are.only x c in
         let (l, (t, a, h, w, q)) = of_sources log x.word x.source m in
         let b = (entry_is log formed t a h).word in
-        in_flat_map (λ word. map (key word) (sources_of log word)) (range_with_len 0 (length log.lasts)) x.word x (in_range 0 (length log.lasts) x.word (omega arith) (omega (arith, b, w)))
+        in_flat_map (λ word. map (key word) (sources_of log word)) (range_with_len 0 (length log.last_tags)) x.word x (in_range 0 (length log.last_tags) x.word (omega arith) (omega (arith, b, w)))
         (in_map (key x.word) (sources_of log x.word) x.source m)
 
-    back : (x : Key) → Contains (flat_map (λ word. map (key word) (sources_of log word)) (range_with_len 0 (length log.lasts))) x → Contains keys x
+    back : (x : Key) → Contains (flat_map (λ word. map (key word) (sources_of log word)) (range_with_len 0 (length log.last_tags))) x → Contains keys x
     back x c =
-        let (w, m, d) = of_flat_map (λ word. map (key word) (sources_of log word)) (range_with_len 0 (length log.lasts)) x c in
+        let (w, m, d) = of_flat_map (λ word. map (key word) (sources_of log word)) (range_with_len 0 (length log.last_tags)) x c in
         let (s, n, q) = of_map (key w) (sources_of log w) x d in
         let P : Key → Type 0 = λ k. Contains keys k in subst P q (are.all w s n)
 
 pub last_rows-are : (log : Log) → IsWellFormed log → (keys : List Key) (reads : List Read) → AreInOrder keys → AreReadsInOrder reads → AreKeys log keys → AreReads log reads →
     rows_of (map (λ (r : Read). r.last) reads) (key_starts keys reads) ≡ last_rows log
 last_rows-are log formed keys reads h r are reads_are =
-    same_lists (rows_of (map (λ (r : Read). r.last) reads) (key_starts keys reads)) (map (λ (k : Key). lasts_from log k.word k.source) keys) (rows_long ∙ sym keys_long) row ∙
-    ap (map (λ (k : Key). lasts_from log k.word k.source)) (keys_listed log formed keys h are) ∙
-    map-flat_map (λ (k : Key). lasts_from log k.word k.source) (λ word. map (key word) (sources_of log word)) (range_with_len 0 (length log.lasts)) ∙
-    ap (λ (f : ℕ → List (List ℕ)). flat_map f (range_with_len 0 (length log.lasts))) (λ i word. map-map (λ (k : Key). lasts_from log k.word k.source) (key word) (sources_of log word) i)
+    same_lists (rows_of (map (λ (r : Read). r.last) reads) (key_starts keys reads)) (map (λ (k : Key). last_reads_from log k.word k.source) keys) (rows_long ∙ sym keys_long) row ∙
+    ap (map (λ (k : Key). last_reads_from log k.word k.source)) (keys_listed log formed keys h are) ∙
+    map-flat_map (λ (k : Key). last_reads_from log k.word k.source) (λ word. map (key word) (sources_of log word)) (range_with_len 0 (length log.last_tags)) ∙
+    ap (λ (f : ℕ → List (List ℕ)). flat_map f (range_with_len 0 (length log.last_tags))) (λ i word. map-map (λ (k : Key). last_reads_from log k.word k.source) (key word) (sources_of log word) i)
   where
     rows_long : length (rows_of (map (λ (r : Read). r.last) reads) (key_starts keys reads)) ≡ length keys
     rows_long =
@@ -118,11 +118,11 @@ last_rows-are log formed keys reads h r are reads_are =
         let m = length-map-range_with_len (λ i. cut (map (λ (r : Read). r.last) reads) (get_or (key_starts keys reads) i 0) (get_or (key_starts keys reads) (i + 1) 0)) 0 (length (key_starts keys reads) - 1) in
         omega (arith, n, m)
 
-    keys_long : length (map (λ (k : Key). lasts_from log k.word k.source) keys) ≡ length keys
-    keys_long = length-map keys (λ (k : Key). lasts_from log k.word k.source)
+    keys_long : length (map (λ (k : Key). last_reads_from log k.word k.source) keys) ≡ length keys
+    keys_long = length-map keys (λ (k : Key). last_reads_from log k.word k.source)
 
     row : (g : ℕ) (d : List ℕ) → g < length (rows_of (map (λ (r : Read). r.last) reads) (key_starts keys reads)) →
-        get_or (rows_of (map (λ (r : Read). r.last) reads) (key_starts keys reads)) g d ≡ get_or (map (λ (k : Key). lasts_from log k.word k.source) keys) g d
+        get_or (rows_of (map (λ (r : Read). r.last) reads) (key_starts keys reads)) g d ≡ get_or (map (λ (k : Key). last_reads_from log k.word k.source) keys) g d
     row g d l =
         let m : g < length keys = let n = rows_long in omega (arith, l, n) in
         let n = length-map keys (λ (key : Key). count_by (is_read_up_to key) reads) in
@@ -132,7 +132,7 @@ last_rows-are log formed keys reads h r are reads_are =
         get_or-map-range_with_len (λ i. cut (map (λ (r : Read). r.last) reads) (get_or (key_starts keys reads) i 0) (get_or (key_starts keys reads) (i + 1) 0)) 0 (length (key_starts keys reads) - 1) g g d
         (omega (arith, n, m)) (omega arith) ∙
         ap (λ a. cut (map (λ (r : Read). r.last) reads) a (get_or (key_starts keys reads) (g + 1) 0)) x ∙ ap (λ b. cut (map (λ (r : Read). r.last) reads) (key_start keys reads g) b) y ∙
-        last_row log keys reads h r are reads_are g m ∙ sym (get_or-map (λ (k : Key). lasts_from log k.word k.source) keys g no_key d m)
+        last_row log keys reads h r are reads_are g m ∙ sym (get_or-map (λ (k : Key). last_reads_from log k.word k.source) keys g no_key d m)
 
 -- the starts of one key more
 pub key_more : (keys : List Key) (reads : List Read) (i x : ℕ) (old new : List ℕ) → i < length keys → old ≡ 0 ∷ map (λ (key : Key). count_by (is_read_up_to key) reads) (take i keys) →

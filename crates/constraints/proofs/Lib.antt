@@ -20,4 +20,7 @@ pub mod Rowing
 pub mod LastRows
 pub mod Groups
 pub mod Parts
+pub mod PairSums
+pub mod Few
+pub mod SideEdges
 pub mod WorkedExamples

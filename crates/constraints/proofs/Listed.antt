@@ -42,8 +42,8 @@ tag_taken log tag e q h = let P : Tag → Type 0 = λ x. IsTagOf log x in subst 
 pub event_taken : (log : Log) → IsWellFormed log → (e : Event) → IsEvent log e → IsTaken log e
 event_taken log formed e (inl (inl (t, a, c, q))) = tag_taken log a.source e q (entry_is log formed t a c).source
 event_taken log formed e (inl (inr (w, l, h))) =
-    let s : last_tag log w ≡ Some e = get_or_default log.lasts w _ _ l ∙ h in
-    tag_taken log (last_tag log w) e s (formed.lasts w l)
+    let s : last_tag log w ≡ Some e = get_or_default log.last_tags w _ _ l ∙ h in
+    tag_taken log (last_tag log w) e s (formed.last_tags w l)
 event_taken log formed e (inr (t, a, c, inl q)) = subst (IsTaken log) (sym q) (first (entry_is log formed t a c))
   where
     first : IsEntryOf log (thread_of log t) a → IsTaken log (first_event t a)

@@ -97,7 +97,7 @@ event_tagged log formed e is =
 
 -- the events that a log names by tags are its events
 pub of_mentioned : (log : Log) (e : Event) → Contains (mentioned_tags log) (Some e) → IsEvent log e
-of_mentioned log e c = go (Contains-append_cases (flat_map (λ t. flat_map (mentioned_by t) (thread_of log t).entries) (thread_numbers log)) log.lasts (Some e) c)
+of_mentioned log e c = go (Contains-append_cases (flat_map (λ t. flat_map (mentioned_by t) (thread_of log t).entries) (thread_numbers log)) log.last_tags (Some e) c)
   where
     one : (a b : Event) → Some a ≡ Some b → b ≡ a
     one a b h = cc
@@ -117,7 +117,7 @@ of_mentioned log e c = go (Contains-append_cases (flat_map (λ t. flat_map (ment
         first (inl q) = inl (inl (t, a, h, q))
         first (inr n) = second (contains_cases (Some (first_event t a)) (Some (last_event t a) ∷ []) (Some e) n)
 
-    go : Contains (flat_map (λ t. flat_map (mentioned_by t) (thread_of log t).entries) (thread_numbers log)) (Some e) ⊎ Contains log.lasts (Some e) → IsEvent log e
+    go : Contains (flat_map (λ t. flat_map (mentioned_by t) (thread_of log t).entries) (thread_numbers log)) (Some e) ⊎ Contains log.last_tags (Some e) → IsEvent log e
     go (inl m) =
         let (t, u, d) = of_flat_map (λ t. flat_map (mentioned_by t) (thread_of log t).entries) (thread_numbers log) (Some e) m in
         let (a, h, n) = of_flat_map (mentioned_by t) (thread_of log t).entries (Some e) d in
@@ -133,13 +133,13 @@ in_mentioned log e is = go is
     named : (t : ℕ) (a : Entry) → HasEntry log t a → Contains (mentioned_by t a) (Some e) → Contains (mentioned_tags log) (Some e)
     named t a h c =
         let l = entry_thread log t a h in
-        Contains-append_left (flat_map (λ t. flat_map (mentioned_by t) (thread_of log t).entries) (thread_numbers log)) log.lasts (Some e)
+        Contains-append_left (flat_map (λ t. flat_map (mentioned_by t) (thread_of log t).entries) (thread_numbers log)) log.last_tags (Some e)
         (in_flat_map (λ t. flat_map (mentioned_by t) (thread_of log t).entries) (thread_numbers log) t (Some e) (in_range 0 (length log.threads) t (omega arith) (omega (arith, l)))
         (in_flat_map (mentioned_by t) (thread_of log t).entries a (Some e) h c))
 
     go : IsEvent log e → Contains (mentioned_tags log) (Some e)
     go (inl (inl (t, a, h, q))) = named t a h (0, omega arith, q)
-    go (inl (inr m)) = Contains-append_right (flat_map (λ t. flat_map (mentioned_by t) (thread_of log t).entries) (thread_numbers log)) log.lasts (Some e) m
+    go (inl (inr m)) = Contains-append_right (flat_map (λ t. flat_map (mentioned_by t) (thread_of log t).entries) (thread_numbers log)) log.last_tags (Some e) m
     go (inr (t, a, h, inl q)) = named t a h (1, omega arith, ap Some (sym q))
     go (inr (t, a, h, inr q)) = named t a h (2, omega arith, ap Some (sym q))
 

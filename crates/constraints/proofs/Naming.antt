@@ -33,8 +33,8 @@ firsts_tagged log formed t l k d m =
     let a = h.low in let b = h.between in let c = h.high in
     record { thread = omega (arith, l, n); first = a; last = omega (arith, b, c, s) }
 
-pub lasts_tagged : (log : Log) → IsWellFormed log → (t : ℕ) → t < length log.threads → All (λ (entry : Entry). HasTag (last_event t entry)) (thread_of log t).entries
-lasts_tagged log formed t l k d m =
+pub last_reads_tagged : (log : Log) → IsWellFormed log → (t : ℕ) → t < length log.threads → All (λ (entry : Entry). HasTag (last_event t entry)) (thread_of log t).entries
+last_reads_tagged log formed t l k d m =
     let h = (formed.threads t l).each (get_or (thread_of log t).entries k d) (Contains-get_or (thread_of log t).entries k d m) in
     let n = formed.range.threads in
     let s = steps_small log formed t l in

@@ -62,10 +62,10 @@ entries_listed log formed t k d l = has (get_or (thread_of log t).entries k d) (
         source (Some e) q = in_list log formed e (source_in log t a e c q)
 
 -- and those that last tags name
-pub finals_listed : (log : Log) → IsWellFormed log → All (λ (tag : Tag). IfSome tag (λ (e : Event). Contains (event_list log) e)) log.lasts
-finals_listed log formed k d l = go (get_or log.lasts k d) (Contains-get_or log.lasts k d l)
+pub last_tags_listed : (log : Log) → IsWellFormed log → All (λ (tag : Tag). IfSome tag (λ (e : Event). Contains (event_list log) e)) log.last_tags
+last_tags_listed log formed k d l = go (get_or log.last_tags k d) (Contains-get_or log.last_tags k d l)
   where
-    go : (tag : Tag) → Contains log.lasts tag → IfSome tag (λ (e : Event). Contains (event_list log) e)
+    go : (tag : Tag) → Contains log.last_tags tag → IfSome tag (λ (e : Event). Contains (event_list log) e)
     go None c = tt
     go (Some e) c = in_list log formed e (inl (inr c))
 
@@ -88,13 +88,13 @@ pub few-as : (log : Log) (events : List Event) → IsWellFormed log → events �
 few-as log events formed v = let P : List Event → Type 0 = λ es. length es < 2 ^ 32 in subst P (sym v) (events_few log formed)
 
 -- the last tag that a loop has come to
-pub item_listed : (log : Log) (events : List Event) (tags : List Tag) (i : ℕ) (x : Tag) → IsWellFormed log → events ≡ event_list log → tags ≡ log.lasts → i < length tags → x ≡ get_or tags i x →
+pub item_listed : (log : Log) (events : List Event) (tags : List Tag) (i : ℕ) (x : Tag) → IsWellFormed log → events ≡ event_list log → tags ≡ log.last_tags → i < length tags → x ≡ get_or tags i x →
     IfSome x (λ (e : Event). Contains events e)
 item_listed log events tags i x formed v e l h =
     let P : List Event → Type 0 = λ es. IfSome x (λ (y : Event). Contains es y) in
     let Q : Tag → Type 0 = λ tag. IfSome tag (λ (y : Event). Contains (event_list log) y) in
-    let n : length tags ≡ length log.lasts = ap length e in
-    subst P (sym v) (subst Q (sym (h ∙ ap (λ (xs : List Tag). get_or xs i x) e)) (finals_listed log formed i x (omega (arith, l, n))))
+    let n : length tags ≡ length log.last_tags = ap length e in
+    subst P (sym v) (subst Q (sym (h ∙ ap (λ (xs : List Tag). get_or xs i x) e)) (last_tags_listed log formed i x (omega (arith, l, n))))
 
 -- an entry by positions comes from one of a thread
 pub of_placed : (log : Log) (p : Placed) → Contains (placed_entries log) p → (t : ℕ) × (a : Entry) × HasEntry log t a × (placed_in (event_list log) t a ≡ p)

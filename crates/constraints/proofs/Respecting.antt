@@ -49,7 +49,7 @@ entry-impossible log t a c q n =
 
 -- a last tag is an event
 pub last_tag_in : (log : Log) → IsWellFormed log → (t : ℕ) (a : Entry) (z : Event) → HasEntry log t a → last_tag log a.word ≡ Some z → IsEvent log z
-last_tag_in log formed t a z c q = inl (inr (a.word, (entry_is log formed t a c).word, get_or_default log.lasts a.word (Some z) None (entry_is log formed t a c).word ∙ q))
+last_tag_in log formed t a z c q = inl (inr (a.word, (entry_is log formed t a c).word, get_or_default log.last_tags a.word (Some z) None (entry_is log formed t a c).word ∙ q))
 
 up_to : (order : List Event) (a b : Event) → Contains order a → place order a ≤ place order b → IsUpTo (place order) a b
 up_to order a b c l = go (cases_order (place order a) (place order b))

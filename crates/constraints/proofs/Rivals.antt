@@ -43,12 +43,12 @@ pub of_pairs : (log : Log) (p : Pair) → Contains (pairs_of log) p →
     (word : ℕ) × (s : ℕ) × (t : ℕ) × Contains (sources_of log word) s × Contains (sources_of log word) t × (s < t) × (pair_of log word s t ≡ p)
 unfolding pairs_of
 of_pairs log p c =
-    let (word, m, d) = of_flat_map (λ word. pairs_among (pair_of log word) (sources_of log word)) (range_with_len 0 (length log.lasts)) p c in
+    let (word, m, d) = of_flat_map (λ word. pairs_among (pair_of log word) (sources_of log word)) (range_with_len 0 (length log.last_tags)) p c in
     let (s, t, a, b, l, q) = of_among (pair_of log word) (sources_of log word) p (sources-rising log word) d in
     (word, s, t, a, b, l, q)
 
-pub in_pairs : (log : Log) (word s t : ℕ) → word < length log.lasts → Contains (sources_of log word) s → Contains (sources_of log word) t → s < t → Contains (pairs_of log) (pair_of log word s t)
+pub in_pairs : (log : Log) (word s t : ℕ) → word < length log.last_tags → Contains (sources_of log word) s → Contains (sources_of log word) t → s < t → Contains (pairs_of log) (pair_of log word s t)
 unfolding pairs_of
 in_pairs log word s t w c d l =
-    in_flat_map (λ word. pairs_among (pair_of log word) (sources_of log word)) (range_with_len 0 (length log.lasts)) word (pair_of log word s t) (in_range 0 (length log.lasts) word (omega arith) (omega (arith, w)))
+    in_flat_map (λ word. pairs_among (pair_of log word) (sources_of log word)) (range_with_len 0 (length log.last_tags)) word (pair_of log word s t) (in_range 0 (length log.last_tags) word (omega arith) (omega (arith, w)))
     (in_among (pair_of log word) (sources_of log word) s t (sources-rising log word) c d l)

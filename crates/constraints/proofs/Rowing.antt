@@ -1,4 +1,4 @@
--- The rows of sources and of lasts, cut from sorted keys and reads.
+-- The rows of sources and of last reads, cut from sorted keys and reads.
 use Rattle.std.proofs.Common.{◌≡◌, ℕ, zero, suc, ◌+◌, ◌-◌, ◌<◌, ◌≤◌, true, false, leb, Ordering, nat_cmp, List, [], ◌∷◌, ◌++◌, length, get_or, map, refl, sym, ◌∙◌, ap, subst, arith, inl, inr, ◌⊎◌}
 use Rattle.std.specs.Prelude.{Contains}
 use Rattle.std.specs.Ordering.{is_le, is_gt, ordering_then, ordering_reverse}
@@ -14,7 +14,7 @@ use Rattle.std.proofs.lemmas.List.Elements.{Contains-get_or}
 use Rattle.replay_model.specs.Logs.{Log}
 use Rattle.constraints.specs.declared.reads.Read.{Read}
 use Rattle.constraints.specs.declared.reads.Key.{Key}
-use Rattle.constraints.specs.Constraints.{sources_of, lasts_from}
+use Rattle.constraints.specs.Constraints.{sources_of, last_reads_from}
 use Rattle.constraints.specs.Rows.{cut, rows_of, AreStarts}
 use Rattle.constraints.specs.Building.{key_of, key_cmp, read_cmp, is_read_up_to, AreInOrder, AreReadsInOrder, AreKeys, AreReads, source_rows}
 use Rattle.constraints.proofs.Members.{Rising, same_rising}
@@ -24,7 +24,7 @@ use Rattle.constraints.proofs.Naming.{map_range_more}
 use Rattle.constraints.proofs.Points.{count-point, count-more}
 use Rattle.constraints.proofs.Cuts.{of_cut, in_cut, cut-pairs, same_map_range}
 use Rattle.constraints.proofs.Rivals.{sources-rising}
-use Rattle.constraints.proofs.Shapes.{lasts-rising}
+use Rattle.constraints.proofs.Shapes.{last_reads-rising}
 
 abbrev pub no_key : Key
 no_key = record { word = 0; source = 0 }
@@ -212,7 +212,7 @@ source_starts keys words = record { some = omega arith; first = refl; rising = r
         let o = length-map keys (λ (k : Key). k.source) in
         omega (arith, x, m, o)
 
-pub source_rows-are : (log : Log) (keys : List Key) (words : ℕ) → words ≡ length log.lasts → AreInOrder keys → AreKeys log keys → rows_of (map (λ (k : Key). k.source) keys) (word_starts keys words) ≡ source_rows log
+pub source_rows-are : (log : Log) (keys : List Key) (words : ℕ) → words ≡ length log.last_tags → AreInOrder keys → AreKeys log keys → rows_of (map (λ (k : Key). k.source) keys) (word_starts keys words) ≡ source_rows log
 source_rows-are log keys words q h are =
     let n = length-map-range_with_len (λ word. count_by (λ (key : Key). leb key.word word) keys) 0 words in
     let m : length (word_starts keys words) - 1 ≡ words = omega (arith, n) in
@@ -227,7 +227,7 @@ source_rows-are log keys words q h are =
         let y : get_or (word_starts keys words) (i + 1) 0 ≡ word_start keys (suc i) = ap (λ k. get_or (word_starts keys words) k 0) o ∙ word_starts-at keys words (suc i) (omega arith) in
         ap (λ a. cut (map (λ (k : Key). k.source) keys) a (get_or (word_starts keys words) (i + 1) 0)) x ∙ ap (λ b. cut (map (λ (k : Key). k.source) keys) (word_start keys i) b) y ∙ source_row log keys h are i
 
--- where the lasts of a key begin among the reads
+-- where the last reads of a key begin among the reads
 abbrev pub key_start : List Key → List Read → ℕ → ℕ
 key_start keys reads zero = 0
 key_start keys reads (suc g) = count_by (is_read_up_to (get_or keys g no_key)) reads
@@ -311,9 +311,9 @@ key_between log keys reads h r are reads_are g k d gl l m = find (are.all (get_o
             absurd (both_ways (is_le (key_cmp (key_of (get_or reads k d)) (get_or keys g no_key))) (subst Q at t) low)
 
 pub last_row : (log : Log) (keys : List Key) (reads : List Read) → AreInOrder keys → AreReadsInOrder reads → AreKeys log keys → AreReads log reads → (g : ℕ) → g < length keys →
-    cut (map (λ (r : Read). r.last) reads) (key_start keys reads g) (key_start keys reads (suc g)) ≡ lasts_from log (get_or keys g no_key).word (get_or keys g no_key).source
+    cut (map (λ (r : Read). r.last) reads) (key_start keys reads g) (key_start keys reads (suc g)) ≡ last_reads_from log (get_or keys g no_key).word (get_or keys g no_key).source
 last_row log keys reads h r are reads_are g gl = same_rising (cut (map (λ (r : Read). r.last) reads) (key_start keys reads g) (key_start keys reads (suc g)))
-    (lasts_from log (get_or keys g no_key).word (get_or keys g no_key).source) rising (lasts-rising log (get_or keys g no_key).word (get_or keys g no_key).source) there back
+    (last_reads_from log (get_or keys g no_key).word (get_or keys g no_key).source) rising (last_reads-rising log (get_or keys g no_key).word (get_or keys g no_key).source) there back
   where
     no_read : Read
     no_read = record { word = 0; source = 0; last = 0 }
@@ -360,15 +360,15 @@ last_row log keys reads h r are reads_are g gl = same_rising (cut (map (λ (r : 
             let s = lower (get_or reads i no_read) (get_or reads j no_read) (key i l il ∙ sym (key j jl n)) (r i j no_read m (inside j n)) in
             omega (arith, x, y, s)
 
-    there : (x : ℕ) → Contains (cut (map (λ (r : Read). r.last) reads) (key_start keys reads g) (key_start keys reads (suc g))) x → Contains (lasts_from log (get_or keys g no_key).word (get_or keys g no_key).source) x
+    there : (x : ℕ) → Contains (cut (map (λ (r : Read). r.last) reads) (key_start keys reads g) (key_start keys reads (suc g))) x → Contains (last_reads_from log (get_or keys g no_key).word (get_or keys g no_key).source) x
     there x c =
         let (k, l, m, e) = of_cut (map (λ (r : Read). r.last) reads) (key_start keys reads g) (key_start keys reads (suc g)) x up top c in
         let s : (get_or reads k no_read).last ≡ x = sym (at k x (inside k m)) ∙ e in
-        let P : Key → Type 0 = λ v. Contains (lasts_from log v.word v.source) (get_or reads k no_read).last in
-        let Q : ℕ → Type 0 = λ v. Contains (lasts_from log (get_or keys g no_key).word (get_or keys g no_key).source) v in
+        let P : Key → Type 0 = λ v. Contains (last_reads_from log v.word v.source) (get_or reads k no_read).last in
+        let Q : ℕ → Type 0 = λ v. Contains (last_reads_from log (get_or keys g no_key).word (get_or keys g no_key).source) v in
         subst Q s (subst P (key k l m) (reads_are.only (get_or reads k no_read) (Contains-get_or reads k no_read (inside k m))).1)
 
-    back : (x : ℕ) → Contains (lasts_from log (get_or keys g no_key).word (get_or keys g no_key).source) x → Contains (cut (map (λ (r : Read). r.last) reads) (key_start keys reads g) (key_start keys reads (suc g))) x
+    back : (x : ℕ) → Contains (last_reads_from log (get_or keys g no_key).word (get_or keys g no_key).source) x → Contains (cut (map (λ (r : Read). r.last) reads) (key_start keys reads g) (key_start keys reads (suc g))) x
     back x c = go (reads_are.all (get_or keys g no_key).word (get_or keys g no_key).source x (are.only (get_or keys g no_key) (Contains-get_or keys g no_key gl)) c)
       where
         go : Contains reads (record { word = (get_or keys g no_key).word; source = (get_or keys g no_key).source; last = x }) → Contains (cut (map (λ (r : Read). r.last) reads) (key_start keys reads g) (key_start keys reads (suc g))) x
@@ -413,6 +413,6 @@ source_starts-of keys words items starts p q =
     subst P (sym p) (subst Q (sym q) (source_starts keys words))
 
 pub source_rows-of : (keys : List Key) (words : ℕ) (items starts : List ℕ) (rows : List (List ℕ)) → AreInOrder keys → items ≡ map (λ (k : Key). k.source) keys → starts ≡ word_starts keys words → rows ≡ rows_of items starts →
-    (log : Log) → words ≡ length log.lasts → AreKeys log keys → rows ≡ source_rows log
+    (log : Log) → words ≡ length log.last_tags → AreKeys log keys → rows ≡ source_rows log
 source_rows-of keys words items starts rows h p q r log e are =
     r ∙ ap (λ (xs : List ℕ). rows_of xs starts) p ∙ ap (rows_of (map (λ (k : Key). k.source) keys)) q ∙ source_rows-are log keys words e h are

@@ -18,13 +18,13 @@ use Rattle.plain_search.specs.Edges.{Holds}
 use Rattle.plain_search.specs.Chains.{arrow, links, chains_from}
 use Rattle.plain_search.specs.Searches.{Pair}
 use Rattle.constraints.specs.Positions.{thread_numbers, events_of_thread, event_list, counts_of, event_at, position_of}
-use Rattle.constraints.specs.Constraints.{is_last_of, sources_of, lasts_from, edges_to, edges_from, source_edges, final_edges, entry_edges, base_of, pairs_of, problem_of_log}
+use Rattle.constraints.specs.Constraints.{is_last_of, sources_of, last_reads_from, edges_to, edges_from, source_edges, last_tag_edges, entry_edges, base_of, pairs_of, problem_of_log}
 use Rattle.constraints.specs.Laws.{EventsAreListed, SourcesRise, IsWithin, EdgesAreWithin, SidesExclude, SourcesAreRead}
 use Rattle.constraints.proofs.Members.{Rising, contains_none, contains_cases, of_filter, of_map}
 use Rattle.constraints.proofs.Listed.{entry_is, of_list, in_list, list_once, position-event, event-position, position-below, positions-rising}
 use Rattle.constraints.proofs.Listing.{list-listed}
 use Rattle.constraints.proofs.Ranked.{NotAfter, All-from, Holds-split, hold-edges_to}
-use Rattle.constraints.proofs.Sources.{source_in, first_in, last_in, of_sources, of_lasts, in_lasts}
+use Rattle.constraints.proofs.Sources.{source_in, first_in, last_in, of_sources, of_last_reads, in_last_reads}
 use Rattle.constraints.proofs.Rivals.{sources-rising, of_pairs}
 use Rattle.constraints.proofs.Solving.{of_base, source_rises, chains_keep}
 use Rattle.constraints.proofs.Respecting.{last_tag_in}
@@ -39,17 +39,17 @@ events_are_listed log formed = record {
   position = position-event log;
 }
 
-pub lasts-rising : (log : Log) (word s : ℕ) → Rising (lasts_from log word s)
-unfolding lasts_from
-lasts-rising log word s = positions-rising log (is_last_of log word (Some (event_at log s)))
+pub last_reads-rising : (log : Log) (word s : ℕ) → Rising (last_reads_from log word s)
+unfolding last_reads_from
+last_reads-rising log word s = positions-rising log (is_last_of log word (Some (event_at log s)))
 
 pub sources_rise : SourcesRise
-sources_rise log word formed = record { sources = sources-rising log word; lasts = lasts-rising log word; some = some }
+sources_rise log word formed = record { sources = sources-rising log word; last_reads = last_reads-rising log word; some = some }
   where
-    some : (s : ℕ) → Contains (sources_of log word) s → 0 < length (lasts_from log word s)
+    some : (s : ℕ) → Contains (sources_of log word) s → 0 < length (last_reads_from log word s)
     some s c =
         let (l, (t, a, d, w, q)) = of_sources log word s c in
-        let (k, m, e) = in_lasts log formed word s t a d w q in
+        let (k, m, e) = in_last_reads log formed word s t a d w q in
         omega (arith, m)
 
 abbrev Ends : ℕ → Edge → Type 0
@@ -88,7 +88,7 @@ edges_from-end count from tos l h = All-from (Ends count) (edges_from from tos) 
     subst (Ends count) q (l, h p (of_filter (λ to. not (eqb from to)) tos p m).0))
 
 entry-end : (log : Log) → IsWellFormed log → (t : ℕ) (a : Entry) → HasEntry log t a → All (Ends (length (event_list log))) (entry_edges log t a)
-entry-end log formed t a c = All-append (Ends (length (event_list log))) (source_edges log t a a.source) (final_edges log t a (last_tag log a.word)) (source a.source refl) (final (last_tag log a.word) refl)
+entry-end log formed t a c = All-append (Ends (length (event_list log))) (source_edges log t a a.source) (last_tag_edges log t a (last_tag log a.word)) (source a.source refl) (final (last_tag log a.word) refl)
   where
     at : (e : Event) → IsEvent log e → position_of log e < length (event_list log)
     at e is = position-below log e (in_list log formed e is)
@@ -101,7 +101,7 @@ entry-end log formed t a c = All-append (Ends (length (event_list log))) (source
     source (Some x) q = All-cons (Ends (length (event_list log))) (arrow (position_of log x) (position_of log (first_event t a))) []
         (at x (source_in log t a x c q), at (first_event t a) (first_in log t a c)) (All-nil (Ends (length (event_list log))))
 
-    final : (tag : Tag) → last_tag log a.word ≡ tag → All (Ends (length (event_list log))) (final_edges log t a tag)
+    final : (tag : Tag) → last_tag log a.word ≡ tag → All (Ends (length (event_list log))) (last_tag_edges log t a tag)
     final None q = All-nil (Ends (length (event_list log)))
     final (Some z) q = go (cases_Bool (same_tag a.source (Some z)))
       where
@@ -112,7 +112,7 @@ entry-end log formed t a c = All-append (Ends (length (event_list log))) (source
             pick (inl e) = let l = last in omega (arith, l, e)
             pick (inr k) = absurd (contains_none p k)
 
-        go : (same_tag a.source (Some z) ≡ true) ⊎ (same_tag a.source (Some z) ≡ false) → All (Ends (length (event_list log))) (final_edges log t a (Some z))
+        go : (same_tag a.source (Some z) ≡ true) ⊎ (same_tag a.source (Some z) ≡ false) → All (Ends (length (event_list log))) (last_tag_edges log t a (Some z))
         go (inl s) = rw s (All-nil (Ends (length (event_list log))))
         go (inr s) = rw s (edges_to-end (length (event_list log)) (position_of log (last_event t a) ∷ []) (position_of log z) only (at z (last_tag_in log formed t a z c q)))
 
@@ -125,10 +125,10 @@ edges_are_within log formed = record {
   };
   lesser = All-from (λ (p : Pair). IsWithin log p.lesser) (pairs_of log) (λ p c.
       let (w, s, t, a, b, l, q) = of_pairs log p c in
-      subst (λ (x : Pair). IsWithin log x.lesser) q (record { within = edges_to-end (length (event_list log)) (lasts_from log w s) t (λ k m. (of_lasts log w s k m).0) (of_sources log w t b).0 }));
+      subst (λ (x : Pair). IsWithin log x.lesser) q (record { within = edges_to-end (length (event_list log)) (last_reads_from log w s) t (λ k m. (of_last_reads log w s k m).0) (of_sources log w t b).0 }));
   greater = All-from (λ (p : Pair). IsWithin log p.greater) (pairs_of log) (λ p c.
       let (w, s, t, a, b, l, q) = of_pairs log p c in
-      subst (λ (x : Pair). IsWithin log x.greater) q (record { within = edges_to-end (length (event_list log)) (lasts_from log w t) s (λ k m. (of_lasts log w t k m).0) (of_sources log w s a).0 }));
+      subst (λ (x : Pair). IsWithin log x.greater) q (record { within = edges_to-end (length (event_list log)) (last_reads_from log w t) s (λ k m. (of_last_reads log w t k m).0) (of_sources log w s a).0 }));
 }
 
 -- a source ranks below the last of each entry that it has
@@ -150,17 +150,17 @@ read_ranks log s rank formed holds l u a d q =
 
 pub sources_are_read : SourcesAreRead
 sources_are_read log word s last rank formed holds c d =
-    let (k, (u, a, h, w, q, e)) = of_lasts log word s last d in
+    let (k, (u, a, h, w, q, e)) = of_last_reads log word s last d in
     let x = read_ranks log s rank formed holds (of_sources log word s c).0 u a h q in
     let y : position_of log (last_event u a) ≡ last = ap (position_of log) e ∙ position-event log last k in
     let z = ap rank y in
     omega (arith, x, z)
 
 -- where a side's edges hold, its source ranks below the other one
-side_ranks : (log : Log) (word s t : ℕ) (rank : ℕ → ℕ) → IsWellFormed log → Holds rank (problem_of_log log).edges → Contains (sources_of log word) s → Holds rank (edges_to (lasts_from log word s) t) → rank s < rank t
+side_ranks : (log : Log) (word s t : ℕ) (rank : ℕ → ℕ) → IsWellFormed log → Holds rank (problem_of_log log).edges → Contains (sources_of log word) s → Holds rank (edges_to (last_reads_from log word s) t) → rank s < rank t
 side_ranks log word s t rank formed holds c h =
     let (l, (u, a, d, w, q)) = of_sources log word s c in
-    go (position_of log (last_event u a)) (hold-edges_to rank (lasts_from log word s) t (position_of log (last_event u a)) h (in_lasts log formed word s u a d w q))
+    go (position_of log (last_event u a)) (hold-edges_to rank (last_reads_from log word s) t (position_of log (last_event u a)) h (in_last_reads log formed word s u a d w q))
     (read_ranks log s rank formed holds l u a d q)
   where
     go : (p : ℕ) → NotAfter rank p t → rank s < rank p → rank s < rank t

@@ -19,11 +19,11 @@ use Rattle.plain_search.specs.Edges.{Holds}
 use Rattle.plain_search.specs.Chains.{arrow, chains_from}
 use Rattle.plain_search.specs.Searches.{Pair, HoldsOneSide, Solves}
 use Rattle.constraints.specs.Positions.{thread_numbers, events_of_thread, event_list, counts_of, no_event, event_at, position_of}
-use Rattle.constraints.specs.Constraints.{sources_of, lasts_from, edges_to, source_edges, final_edges, entry_edges, base_of, pair_of, pairs_of, problem_of_log}
+use Rattle.constraints.specs.Constraints.{sources_of, last_reads_from, edges_to, source_edges, last_tag_edges, entry_edges, base_of, pair_of, pairs_of, problem_of_log}
 use Rattle.constraints.proofs.Members.{contains_none, contains_here, contains_cases, of_flat_map, in_flat_map, in_range}
 use Rattle.constraints.proofs.Listed.{Before, of_thread, in_thread, entry_is, event_taken, in_list, thread_before, position-event, event-position, one_position}
 use Rattle.constraints.proofs.Ranked.{Rises, NotAfter, RankedAt, All-from, Holds-split, edges_to-hold, hold-edges_to, edges_from-hold, hold-edges_from, none_after, chains-hold, hold-chains}
-use Rattle.constraints.proofs.Sources.{source_in, last_in, of_sources, in_sources, of_lasts, in_lasts}
+use Rattle.constraints.proofs.Sources.{source_in, last_in, of_sources, in_sources, of_last_reads, in_last_reads}
 use Rattle.constraints.proofs.Rivals.{of_pairs, in_pairs}
 use Rattle.constraints.proofs.Keeping.{IsUpTo, Keeps}
 
@@ -126,8 +126,8 @@ keep_chains log rank h = chains-hold rank (rank_at log rank) (events_of_thread l
         steps (inr (p, r)) = r
 
 -- what an entry asks for holds
-entry_holds : (log : Log) (rank : ℕ → ℕ) → Holds rank (base_of log) → (t : ℕ) (a : Entry) → HasEntry log t a → Holds rank (source_edges log t a a.source) × Holds rank (final_edges log t a (last_tag log a.word))
-entry_holds log rank h t a c = Holds-split rank (source_edges log t a a.source) (final_edges log t a (last_tag log a.word))
+entry_holds : (log : Log) (rank : ℕ → ℕ) → Holds rank (base_of log) → (t : ℕ) (a : Entry) → HasEntry log t a → Holds rank (source_edges log t a a.source) × Holds rank (last_tag_edges log t a (last_tag log a.word))
+entry_holds log rank h t a c = Holds-split rank (source_edges log t a a.source) (last_tag_edges log t a (last_tag log a.word))
     (All-from (Rises rank) (entry_edges log t a) (λ e m. All-contains (Rises rank) (base_of log) e h (in_base log t a e c m)))
 
 -- so a source ranks below the first read of it
@@ -161,23 +161,23 @@ solves-keeps log rank formed solves = record {
 
     final : (t : ℕ) (a : Entry) (z : Event) → HasEntry log t a → last_tag log a.word ≡ Some z → a.source ≢ Some z → IsUpTo (rank_at log rank) (last_event t a) z
     final t a z c q n =
-        let P : Tag → Type 0 = λ tag. Holds rank (final_edges log t a tag) in
-        let h : Holds rank (final_edges log t a (Some z)) = subst P q (entry_holds log rank parts.1 t a c).1 in
+        let P : Tag → Type 0 = λ tag. Holds rank (last_tag_edges log t a tag) in
+        let h : Holds rank (last_tag_edges log t a (Some z)) = subst P q (entry_holds log rank parts.1 t a c).1 in
         not_after-up_to log rank (last_event t a) z (there (last_event t a) (last_in log t a c)) (go h (cases_Bool (same_tag a.source (Some z))))
       where
-        go : Holds rank (final_edges log t a (Some z)) → (same_tag a.source (Some z) ≡ true) ⊎ (same_tag a.source (Some z) ≡ false) → NotAfter rank (position_of log (last_event t a)) (position_of log z)
+        go : Holds rank (last_tag_edges log t a (Some z)) → (same_tag a.source (Some z) ≡ true) ⊎ (same_tag a.source (Some z) ≡ false) → NotAfter rank (position_of log (last_event t a)) (position_of log z)
         go h (inl s) = absurd (n (same_tag-true a.source (Some z) s))
         go h (inr s) =
             let Q : Bool → Type 0 = λ b. Holds rank (cond b [] (edges_to (position_of log (last_event t a) ∷ []) (position_of log z))) in
             hold-edges_to rank (position_of log (last_event t a) ∷ []) (position_of log z) (position_of log (last_event t a)) (subst Q s h) (contains_here (position_of log (last_event t a)) [])
 
-    -- the lasts of one source are up to another source of the word, where that side of the pair holds
+    -- the last reads of one source are up to another source of the word, where that side of the pair holds
     side : (w t u : ℕ) (a b : Entry) (x y : Event) → HasEntry log t a → a.word ≡ w → a.source ≡ Some x → IsEvent log y →
-        Holds rank (edges_to (lasts_from log w (position_of log x)) (position_of log y)) → IsUpTo (rank_at log rank) (last_event t a) y
+        Holds rank (edges_to (last_reads_from log w (position_of log x)) (position_of log y)) → IsUpTo (rank_at log rank) (last_event t a) y
     side w t u a b x y c wa p ey h =
-        let m = in_lasts log formed w (position_of log x) t a c wa (p ∙ ap Some (sym (event-position log x (there x (source_in log t a x c p))))) in
+        let m = in_last_reads log formed w (position_of log x) t a c wa (p ∙ ap Some (sym (event-position log x (there x (source_in log t a x c p))))) in
         not_after-up_to log rank (last_event t a) y (there (last_event t a) (last_in log t a c))
-        (hold-edges_to rank (lasts_from log w (position_of log x)) (position_of log y) (position_of log (last_event t a)) h m)
+        (hold-edges_to rank (last_reads_from log w (position_of log x)) (position_of log y) (position_of log (last_event t a)) h m)
 
     apart : (t u : ℕ) (a b : Entry) (x y : Event) → HasEntry log t a → HasEntry log u b → a.word ≡ b.word → a.source ≡ Some x → b.source ≡ Some y → x ≢ y →
         (position_of log x ≡ position_of log y) ⊎ ((position_of log x < position_of log y) ⊎ (position_of log y < position_of log x)) →
@@ -214,11 +214,11 @@ keeps-solves log rank formed keeps = record {
             subst (λ (n : ℕ). NotAfter rank (position_of log (last_event t a)) n) (position-event log p l) h
     source t a c (Some x) q = All-cons (Rises rank) (arrow (position_of log x) (position_of log (first_event t a))) [] (keeps.source_first t a x c q) (All-nil (Rises rank))
 
-    final : (t : ℕ) (a : Entry) → HasEntry log t a → (tag : Tag) → last_tag log a.word ≡ tag → Holds rank (final_edges log t a tag)
+    final : (t : ℕ) (a : Entry) → HasEntry log t a → (tag : Tag) → last_tag log a.word ≡ tag → Holds rank (last_tag_edges log t a tag)
     final t a c None q = All-nil (Rises rank)
     final t a c (Some z) q = go (cases_Bool (same_tag a.source (Some z)))
       where
-        go : (same_tag a.source (Some z) ≡ true) ⊎ (same_tag a.source (Some z) ≡ false) → Holds rank (final_edges log t a (Some z))
+        go : (same_tag a.source (Some z) ≡ true) ⊎ (same_tag a.source (Some z) ≡ false) → Holds rank (last_tag_edges log t a (Some z))
         go (inl s) = rw s (All-nil (Rises rank))
         go (inr s) = rw s (edges_to-hold rank (position_of log (last_event t a) ∷ []) (position_of log z) each)
           where
@@ -236,7 +236,7 @@ keeps-solves log rank formed keeps = record {
     base e m =
         let (t, a, c, k) = of_base log e m in
         All-contains (Rises rank) (entry_edges log t a) e
-        (All-append (Rises rank) (source_edges log t a a.source) (final_edges log t a (last_tag log a.word)) (source t a c a.source refl) (final t a c (last_tag log a.word) refl)) k
+        (All-append (Rises rank) (source_edges log t a a.source) (last_tag_edges log t a (last_tag log a.word)) (source t a c a.source refl) (final t a c (last_tag log a.word) refl)) k
 
     sides : (p : Pair) → Contains (pairs_of log) p → HoldsOneSide rank p
     sides p m =
@@ -244,7 +244,7 @@ keeps-solves log rank formed keeps = record {
         subst (HoldsOneSide rank) q (one w s t c d l)
       where
         one : (w s t : ℕ) → Contains (sources_of log w) s → Contains (sources_of log w) t → s < t → HoldsOneSide rank (pair_of log w s t)
-        one w s t c d l = go (none_after rank (lasts_from log w s) t)
+        one w s t c d l = go (none_after rank (last_reads_from log w s) t)
           where
             s_below : s < length (event_list log)
             s_below = (of_sources log w s c).0
@@ -257,11 +257,11 @@ keeps-solves log rank formed keeps = record {
                 let r : s ≡ t = sym (position-event log s s_below) ∙ ap (position_of log) e ∙ position-event log t t_below in
                 absurd (omega (arith, l, r))
 
-            -- of two lasts, one is not after the other source
-            either : (p q : ℕ) → Contains (lasts_from log w s) p → Contains (lasts_from log w t) q → NotAfter rank p t ⊎ NotAfter rank q s
+            -- of two last reads, one is not after the other source
+            either : (p q : ℕ) → Contains (last_reads_from log w s) p → Contains (last_reads_from log w t) q → NotAfter rank p t ⊎ NotAfter rank q s
             either p q m k =
-                let (pl, (pt, a, ca, wa, sa, la)) = of_lasts log w s p m in
-                let (ql, (qt, b, cb, wb, sb, lb)) = of_lasts log w t q k in
+                let (pl, (pt, a, ca, wa, sa, la)) = of_last_reads log w s p m in
+                let (ql, (qt, b, cb, wb, sb, lb)) = of_last_reads log w t q k in
                 pick pl ql (keeps.apart pt qt a b (event_at log s) (event_at log t) ca cb (wa ∙ sym wb) sa sb differ) la lb
               where
                 turn : (p t : ℕ) (e : Event) → p < length (event_list log) → t < length (event_list log) → IsUpTo (rank_at log rank) e (event_at log t) → e ≡ event_at log p → NotAfter rank p t
@@ -276,9 +276,9 @@ keeps-solves log rank formed keeps = record {
                 pick {e} {f} pl ql (inl h) x y = inl (turn p t e pl t_below h x)
                 pick {e} {f} pl ql (inr h) x y = inr (turn q s f ql s_below h y)
 
-            go : ((p : ℕ) → Contains (lasts_from log w s) p → NotAfter rank p t) ⊎ ((p : ℕ) × Contains (lasts_from log w s) p × (NotAfter rank p t → ⊥)) → HoldsOneSide rank (pair_of log w s t)
-            go (inl h) = inl (edges_to-hold rank (lasts_from log w s) t h)
-            go (inr (p, m, late)) = inr (edges_to-hold rank (lasts_from log w t) s (λ q k. other q (either p q m k)))
+            go : ((p : ℕ) → Contains (last_reads_from log w s) p → NotAfter rank p t) ⊎ ((p : ℕ) × Contains (last_reads_from log w s) p × (NotAfter rank p t → ⊥)) → HoldsOneSide rank (pair_of log w s t)
+            go (inl h) = inl (edges_to-hold rank (last_reads_from log w s) t h)
+            go (inr (p, m, late)) = inr (edges_to-hold rank (last_reads_from log w t) s (λ q k. other q (either p q m k)))
               where
                 other : (q : ℕ) → NotAfter rank p t ⊎ NotAfter rank q s → NotAfter rank q s
                 other q (inl h) = absurd (late h)

@@ -1,4 +1,4 @@
--- Positions of sources and of lasts, and the entries that they come from.
+-- Positions of sources and of last reads, and the entries that they come from.
 use Rattle.std.proofs.Common.{◌≡◌, ℕ, ◌<◌, true, eqb, length, refl, sym, ◌∙◌, subst, inl, inr}
 use Rattle.std.specs.Prelude.{Contains, ◌&&◌, Some}
 use Rattle.std.specs.List.{list_any}
@@ -15,7 +15,7 @@ use Rattle.replay_model.specs.WellFormed.{IsWellFormed}
 use Rattle.replay_model.proofs.Tags.{same_tag-true, same_tag-same, any-element, element-any}
 use Rattle.replay_laws.proofs.Places.{entry_thread}
 use Rattle.constraints.specs.Positions.{event_list, event_at, position_of}
-use Rattle.constraints.specs.Constraints.{is_entry_of, is_source_of, is_last_of, sources_of, lasts_from}
+use Rattle.constraints.specs.Constraints.{is_entry_of, is_source_of, is_last_of, sources_of, last_reads_from}
 use Rattle.constraints.proofs.Listed.{in_list, event-position, position-below, of_positions, in_positions}
 
 pub entry_of-is : (word : ℕ) (source : Tag) (a : Entry) → is_entry_of word source a ≡ true → (a.word ≡ word) × (a.source ≡ source)
@@ -79,17 +79,17 @@ in_sources log formed word t a e c w q =
     in_positions log (is_source_of log word) (position_of log e) (position-below log e m)
     (subst (λ (x : Event). is_source_of log word x ≡ true) (sym (event-position log e m)) (entry-source log word e t a c w q))
 
--- and one among the lasts of a source, that of an entry's last
-pub of_lasts : (log : Log) (word s p : ℕ) → Contains (lasts_from log word s) p →
+-- and one among the last reads of a source, that of an entry's last
+pub of_last_reads : (log : Log) (word s p : ℕ) → Contains (last_reads_from log word s) p →
     (p < length (event_list log)) × ((t : ℕ) × (a : Entry) × HasEntry log t a × (a.word ≡ word) × (a.source ≡ Some (event_at log s)) × (last_event t a ≡ event_at log p))
-unfolding lasts_from
-of_lasts log word s p c =
+unfolding last_reads_from
+of_last_reads log word s p c =
     let (l, h) = of_positions log (is_last_of log word (Some (event_at log s))) p c in
     (l, last-entry log word (Some (event_at log s)) (event_at log p) h)
 
-pub in_lasts : (log : Log) → IsWellFormed log → (word s : ℕ) (t : ℕ) (a : Entry) → HasEntry log t a → a.word ≡ word → a.source ≡ Some (event_at log s) → Contains (lasts_from log word s) (position_of log (last_event t a))
-unfolding lasts_from
-in_lasts log formed word s t a c w q =
+pub in_last_reads : (log : Log) → IsWellFormed log → (word s : ℕ) (t : ℕ) (a : Entry) → HasEntry log t a → a.word ≡ word → a.source ≡ Some (event_at log s) → Contains (last_reads_from log word s) (position_of log (last_event t a))
+unfolding last_reads_from
+in_last_reads log formed word s t a c w q =
     let m = in_list log formed (last_event t a) (last_in log t a c) in
     in_positions log (is_last_of log word (Some (event_at log s))) (position_of log (last_event t a)) (position-below log (last_event t a) m)
     (subst (λ (x : Event). is_last_of log word (Some (event_at log s)) x ≡ true) (sym (event-position log (last_event t a) m)) (entry-last log word (Some (event_at log s)) t a c w q))

@@ -1,5 +1,5 @@
 -- What the parts of a problem are made of: the tags that a log names, its entries by positions, and rows of numbers.
-use Rattle.std.specs.Prelude.{◌≡◌, ℕ, ◌+◌, ◌-◌, Bool, false, cond, not, ◌&&◌, eqb, nat_lt, Option, Some, None, is_some, option_map, IfSome, Contains, List, [], ◌∷◌, ◌++◌, length, map, slice_index_or}
+use Rattle.std.specs.Prelude.{◌≡◌, ℕ, ◌+◌, ◌-◌, Bool, false, if◌then◌else◌, not, ◌&&◌, ◌==◌, nat_lt, Option, Some, None, is_some, option_map, IfSome, Contains, List, [], ◌∷◌, ◌++◌, length, map, slice_index_or}
 use Rattle.std.specs.List.{flat_map, range_with_len, count_by, AllPairs}
 use Rattle.std.specs.Ordering.{nat_cmp, ordering_then, is_le}
 use Rattle.std.specs.declared.cmp.Ordering.{Ordering}
@@ -15,7 +15,7 @@ use Rattle.constraints.specs.declared.reads.Read.{Read}
 use Rattle.constraints.specs.declared.reads.Key.{Key}
 use Rattle.replay_model.specs.Orders.{place}
 use Rattle.constraints.specs.Positions.{thread_numbers, event_list}
-use Rattle.constraints.specs.Constraints.{sources_of, lasts_from, edges_to, edges_from}
+use Rattle.constraints.specs.Constraints.{sources_of, last_reads_from, edges_to, edges_from}
 
 -- the tags that an entry of thread t names
 abbrev pub mentioned_by : ℕ → Entry → List Tag
@@ -23,7 +23,7 @@ mentioned_by t entry = entry.source ∷ Some (first_event t entry) ∷ Some (las
 
 -- the tags that a log names
 abbrev pub mentioned_tags : Log → List Tag
-mentioned_tags log = flat_map (λ t. flat_map (mentioned_by t) (thread_of log t).entries) (thread_numbers log) ++ log.lasts
+mentioned_tags log = flat_map (λ t. flat_map (mentioned_by t) (thread_of log t).entries) (thread_numbers log) ++ log.last_tags
 
 -- the number of events of the threads before thread t
 abbrev pub started_before : List Event → ℕ → ℕ
@@ -51,8 +51,8 @@ abbrev pub placed_entries : Log → List Placed
 placed_entries log = flat_map (λ t. map (placed_in (event_list log) t) (thread_of log t).entries) (thread_numbers log)
 
 -- the log's last tags by positions
-abbrev pub placed_finals : Log → List (Option ℕ)
-placed_finals log = map (option_map (place (event_list log))) log.lasts
+abbrev pub placed_last_tags : Log → List (Option ℕ)
+placed_last_tags log = map (option_map (place (event_list log))) log.last_tags
 
 -- the list has the events that an entry of thread t names
 pub record HasEvents (events : List Event) (t : ℕ) (entry : Entry) : Type 0 where
@@ -71,24 +71,29 @@ key_of read = record { word = read.word; source = read.source }
 -- whether there is a number, and it is this one
 abbrev pub is_at : Option ℕ → ℕ → Bool
 is_at None n = false
-is_at (Some m) n = eqb m n
+is_at (Some m) n = m == n
 
 -- what an entry's source asks for, by positions
 abbrev pub placed_source_edges : List (List ℕ) → Placed → Option ℕ → List Edge
 placed_source_edges sources placed None = edges_from placed.last (slice_index_or sources placed.word [])
 placed_source_edges sources placed (Some source) = arrow source placed.first ∷ []
 
+-- the most edges that this may be
+abbrev pub source_room : List (List ℕ) → Placed → Option ℕ → ℕ
+source_room sources placed None = length (slice_index_or sources placed.word [])
+source_room sources placed (Some source) = 1
+
 -- what the word's last tag asks for
-abbrev pub placed_final_edges : Placed → Option ℕ → List Edge
-placed_final_edges placed None = []
-placed_final_edges placed (Some final) = cond (is_at placed.source final) [] (edges_to (placed.last ∷ []) final)
+abbrev pub placed_last_tag_edges : Placed → Option ℕ → List Edge
+placed_last_tag_edges placed None = []
+placed_last_tag_edges placed (Some final) = if is_at placed.source final then [] else edges_to (placed.last ∷ []) final
 
 abbrev pub placed_edges : List (List ℕ) → List (Option ℕ) → Placed → List Edge
-placed_edges sources finals placed = placed_source_edges sources placed placed.source ++ placed_final_edges placed (slice_index_or finals placed.word None)
+placed_edges sources last_tags placed = placed_source_edges sources placed placed.source ++ placed_last_tag_edges placed (slice_index_or last_tags placed.word None)
 
 -- whether the entry is of a word whose last tag is initial, and has another source
 abbrev pub is_shut : List (Option ℕ) → Placed → Bool
-is_shut finals placed = not (is_some (slice_index_or finals placed.word None)) && is_some placed.source
+is_shut last_tags placed = not (is_some (slice_index_or last_tags placed.word None)) && is_some placed.source
 
 -- by word, then by source, and then by last
 abbrev pub read_cmp : Read → Read → Ordering
@@ -115,15 +120,15 @@ pub record AreKeys (log : Log) (keys : List Key) : Type 0 where
   pub all : (word source : ℕ) → Contains (sources_of log word) source → Contains keys (record { word = word; source = source })
   pub only : (key : Key) → Contains keys key → Contains (sources_of log key.word) key.source
 
--- the reads are those of the lasts of the log's sources
+-- the reads are those of the last reads of the log's sources
 pub record AreReads (log : Log) (reads : List Read) : Type 0 where
-  pub all : (word source last : ℕ) → Contains (sources_of log word) source → Contains (lasts_from log word source) last →
+  pub all : (word source last : ℕ) → Contains (sources_of log word) source → Contains (last_reads_from log word source) last →
       Contains reads (record { word = word; source = source; last = last })
-  pub only : (read : Read) → Contains reads read → Contains (sources_of log read.word) read.source × Contains (lasts_from log read.word read.source) read.last
+  pub only : (read : Read) → Contains reads read → Contains (sources_of log read.word) read.source × Contains (last_reads_from log read.word read.source) read.last
 
--- the sources of each word, and the lasts of each source, word after word
+-- the sources of each word, and the last reads of each source, word after word
 abbrev pub source_rows : Log → List (List ℕ)
-source_rows log = map (sources_of log) (range_with_len 0 (length log.lasts))
+source_rows log = map (sources_of log) (range_with_len 0 (length log.last_tags))
 
 abbrev pub last_rows : Log → List (List ℕ)
-last_rows log = flat_map (λ word. map (lasts_from log word) (sources_of log word)) (range_with_len 0 (length log.lasts))
+last_rows log = flat_map (λ word. map (last_reads_from log word) (sources_of log word)) (range_with_len 0 (length log.last_tags))

@@ -19,7 +19,7 @@ abbrev pub thread : ℕ → List Entry → ThreadLog
 thread steps entries = record { entries = entries; steps = steps; instr = steps; end = Halted; taken = [] }
 
 abbrev pub log_of : List ThreadLog → List Tag → Log
-log_of threads lasts = record { digest = []; limits = record { steps = 100; instr = 100; entries = 100 }; threads = threads; lasts = lasts }
+log_of threads last_tags = record { digest = []; limits = record { steps = 100; instr = 100; entries = 100 }; threads = threads; last_tags = last_tags }
 
 abbrev pub pair : List Edge → List Edge → Pair
 pair lesser greater = record { lesser = lesser; greater = greater }

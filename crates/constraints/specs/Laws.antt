@@ -10,7 +10,7 @@ use Rattle.replay_model.specs.Events.{IsEvent}
 use Rattle.replay_model.specs.WellFormed.{IsWellFormed}
 use Rattle.replay_model.specs.Orders.{place, Respects}
 use Rattle.constraints.specs.Positions.{event_list, counts_of, event_at, position_of, IsListed}
-use Rattle.constraints.specs.Constraints.{sources_of, lasts_from, pair_of, pairs_of, problem_of_log, impossible, group_of}
+use Rattle.constraints.specs.Constraints.{sources_of, last_reads_from, pair_of, pairs_of, problem_of_log, impossible, group_of}
 
 -- the order has each event of the log once, and nothing else
 pub record IsOrdering (log : Log) (order : List Event) : Type 0 where
@@ -64,11 +64,11 @@ pub record Lists (log : Log) : Type 0 where
 abbrev pub EventsAreListed : Type 0
 EventsAreListed = (log : Log) → IsWellFormed log → Lists log
 
--- sources of a word rise, and so do the lasts of each, of which there is one at least
+-- sources of a word rise, and so do the last reads of each, of which there is one at least
 pub record Rises (log : Log) (word : ℕ) : Type 0 where
   pub sources : AllPairs (λ p q. p < q) (sources_of log word)
-  pub lasts : (s : ℕ) → AllPairs (λ p q. p < q) (lasts_from log word s)
-  pub some : (s : ℕ) → Contains (sources_of log word) s → 0 < length (lasts_from log word s)
+  pub last_reads : (s : ℕ) → AllPairs (λ p q. p < q) (last_reads_from log word s)
+  pub some : (s : ℕ) → Contains (sources_of log word) s → 0 < length (last_reads_from log word s)
 
 abbrev pub SourcesRise : Type 0
 SourcesRise = (log : Log) (word : ℕ) → IsWellFormed log → Rises log word
@@ -91,10 +91,10 @@ SidesExclude = (log : Log) (word s t : ℕ) (rank : ℕ → ℕ) → IsWellForme
     Contains (sources_of log word) s → Contains (sources_of log word) t → s ≢ t →
     (Holds rank (pair_of log word s t).lesser → rank s < rank t) × (Holds rank (pair_of log word s t).greater → rank t < rank s)
 
--- where the base edges hold, a source ranks below each of its lasts
+-- where the base edges hold, a source ranks below each of its last reads
 abbrev pub SourcesAreRead : Type 0
 SourcesAreRead = (log : Log) (word s last : ℕ) (rank : ℕ → ℕ) → IsWellFormed log → Holds rank (problem_of_log log).edges →
-    Contains (sources_of log word) s → Contains (lasts_from log word s) last → rank s < rank last
+    Contains (sources_of log word) s → Contains (last_reads_from log word s) last → rank s < rank last
 
 -- the numbers of a log's events, of all threads and of each, and of a word's sources
 pub record IsSmall (log : Log) : Type 0 where

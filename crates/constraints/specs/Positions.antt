@@ -1,5 +1,5 @@
 -- The events of a log in one list, and their positions in it, by which constraints name them.
-use Rattle.std.specs.Prelude.{ℕ, Bool, List, length, map, filter, slice_index_or, ◌≡◌, true, ◌||◌, ◌&&◌, eqb, nat_lt}
+use Rattle.std.specs.Prelude.{ℕ, Bool, List, length, map, filter, slice_index_or, ◌≡◌, true, ◌||◌, ◌&&◌, ◌==◌, nat_lt}
 use Rattle.std.specs.List.{flat_map, range_with_len, AllPairs}
 use Rattle.light_base.specs.declared.tag.Event.{Event}
 use Rattle.replay_model.specs.Logs.{Log, thread_of}
@@ -44,7 +44,7 @@ positions_where log test = filter (λ p. test (event_at log p)) (range_with_len 
 
 -- whether the one event comes before the other: by thread, and then by number
 abbrev pub is_before : Event → Event → Bool
-is_before a b = nat_lt a.thread b.thread || (eqb a.thread b.thread && nat_lt a.step b.step)
+is_before a b = nat_lt a.thread b.thread || ((a.thread == b.thread) && nat_lt a.step b.step)
 
 -- the events go by thread, and then by number
 abbrev pub IsListed : List Event → Type 0

@@ -1,8 +1,8 @@
 // The base edges of a log.
-ghost use Rattle.std.specs.Prelude.{◌≡◌, ◌<◌, ◌++◌, All, length, IfOk, OnOk};
-ghost use Rattle.std.specs.List.{flat_map, list_any};
+ghost use Rattle.std.specs.Prelude.{◌≡◌, ◌+◌, ◌<◌, ◌≤◌, ◌++◌, All, length, IfOk, OnOk};
+ghost use Rattle.std.specs.List.{flat_map, list_any, sum_by};
 ghost use Rattle.constraints.specs.Constraints.{edges_from};
-ghost use Rattle.constraints.specs.Building.{placed_source_edges, placed_final_edges, placed_edges, is_shut};
+ghost use Rattle.constraints.specs.Building.{placed_source_edges, placed_last_tag_edges, placed_edges, source_room, is_shut};
 
 use crate::placed::Placed;
 use crate::rows::Rows;
@@ -10,9 +10,10 @@ use light_base::Memory;
 use plain_search::Edge;
 use std::alloc::Global;
 
-// Room for the edges of all entries.
+// Room for the edges of all entries, and for no more than they may ask for.
 fn edge_room(placed: &[Placed], sources: &Rows) -> usize
     requires { All (λ entry. entry.word < length sources.now) placed.now }
+    ensures { result ≤ sum_by (λ entry. source_room sources.now entry entry.source + 1) placed.now }
 {
     let mut room: usize = 0;
     for entry in placed {
@@ -55,12 +56,12 @@ fn push_source_edges(entry: &Placed, sources: &Rows, edges: &mut Vec<Edge>) -> R
 }
 
 // Adds the edge to the word's last tag, where the entry has another source and its last is another event.
-fn push_final_edge(
+fn push_last_tag_edge(
     entry: &Placed,
     last_tag: Option<u32>,
     edges: &mut Vec<Edge>,
 ) -> Result<(), Memory>
-    ensures { OnOk result (edges.new.items ≡ edges.old.items ++ placed_final_edges entry.now last_tag) }
+    ensures { OnOk result (edges.new.items ≡ edges.old.items ++ placed_last_tag_edges entry.now last_tag) }
 {
     if let Some(to) = last_tag {
         if entry.source != last_tag && entry.last != to {
@@ -78,27 +79,27 @@ pub fn base_edges(
     alloc: Global,
     placed: &[Placed],
     sources: &Rows,
-    finals: &[Option<u32>],
+    last_tags: &[Option<u32>],
 ) -> Result<Vec<Edge>, Memory>
     requires sources { All (λ entry. entry.word < length sources.now) placed.now }
-    requires finals { All (λ entry. entry.word < length finals.now) placed.now }
-    ensures { IfOk result (λ edges. edges.items ≡ flat_map (placed_edges sources.now finals.now) placed.now) }
+    requires last_tags { All (λ entry. entry.word < length last_tags.now) placed.now }
+    ensures { IfOk result (λ edges. edges.items ≡ flat_map (placed_edges sources.now last_tags.now) placed.now) }
 {
     let mut edges = Vec::with_capacity(alloc, edge_room(placed, sources))?;
     for entry in placed {
         push_source_edges(entry, sources, &mut edges)?;
-        push_final_edge(entry, finals[usize::from(entry.word)], &mut edges)?;
+        push_last_tag_edge(entry, last_tags[usize::from(entry.word)], &mut edges)?;
     }
     Ok(edges)
 }
 
 /// Whether some entry is of a word whose last tag is initial, and has another source.
-pub fn is_impossible(placed: &[Placed], finals: &[Option<u32>]) -> bool
-    requires { All (λ entry. entry.word < length finals.now) placed.now }
-    ensures { result ≡ list_any (is_shut finals.now) placed.now }
+pub fn is_impossible(placed: &[Placed], last_tags: &[Option<u32>]) -> bool
+    requires { All (λ entry. entry.word < length last_tags.now) placed.now }
+    ensures { result ≡ list_any (is_shut last_tags.now) placed.now }
 {
     for entry in placed {
-        if entry.source.is_some() && finals[usize::from(entry.word)].is_none() {
+        if entry.source.is_some() && last_tags[usize::from(entry.word)].is_none() {
             return true;
         }
     }

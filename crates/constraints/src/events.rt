@@ -50,12 +50,12 @@ fn mentioned(alloc: Global, log: &RunLog) -> Result<Vec<Tag>, Memory>
     ensures value { IfOk result (λ tags. tags.items ≡ mentioned_tags log.now) }
     ensures rules { IsWellFormed log.now }
 {
-    let finals = log.finals();
-    let mut tags = Vec::with_capacity(alloc, 3 * entry_count(log) + finals.len())?;
+    let last_tags = log.finals();
+    let mut tags = Vec::with_capacity(alloc, 3 * entry_count(log) + last_tags.len())?;
     for (t, thread) in log.threads().iter().enumerate() {
         mention(t as u8, thread.entries(), &mut tags)?;
     }
-    tags.extend_from_slice(finals)?;
+    tags.extend_from_slice(last_tags)?;
     Ok(tags)
 }
 

@@ -13,7 +13,7 @@ pub fn order_law()
     ensures lines { LinesAreOrders }
 {}
 
-/// The list of events and the positions in it, which sources and lasts rise, and between which positions edges are.
+/// The list of events and the positions in it, which sources and last reads rise, and between which positions edges are.
 pub fn position_law()
     ensures listed { EventsAreListed }
     ensures rise { SourcesRise }
@@ -21,7 +21,7 @@ pub fn position_law()
 {}
 
 /// Both sides of a rival pair never hold: where the one does, its source ranks below the other one. And a source ranks below
-/// each of its lasts.
+/// each of its last reads.
 pub fn side_law()
     ensures exclude { SidesExclude }
     ensures read { SourcesAreRead }

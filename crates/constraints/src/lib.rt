@@ -9,7 +9,8 @@ mod placed;
 mod problem;
 mod reads;
 mod rows;
+mod side_edges;
 
-pub use events::{list_events, position};
-pub use placed::{Placed, place_entries, place_finals};
+pub use events::list_events;
+pub use placed::{Placed, place_entries, place_last_tags};
 pub use problem::Problem;

@@ -3,7 +3,7 @@ ghost use Rattle.std.specs.Prelude.{◌≡◌, ◌<◌, ◌^◌, ◌++◌, lengt
 ghost use Rattle.replay_model.specs.Logs.{first_event, last_event};
 ghost use Rattle.replay_model.specs.Orders.{place};
 ghost use Rattle.constraints.specs.Positions.{event_list, IsListed};
-ghost use Rattle.constraints.specs.Building.{HasEvents, placed_in, placed_entries, placed_finals};
+ghost use Rattle.constraints.specs.Building.{HasEvents, placed_in, placed_entries, placed_last_tags};
 
 use crate::events::position;
 use dep_log::{Entry, RunLog};
@@ -86,18 +86,18 @@ pub fn place_entries(alloc: Global, log: &RunLog, events: &[Event]) -> Result<Ve
 }
 
 /// The words' last tags by positions.
-pub fn place_finals(
+pub fn place_last_tags(
     alloc: Global,
     log: &RunLog,
     events: &[Event],
 ) -> Result<Vec<Option<u32>>, Memory>
     requires { events.now ≡ event_list log.now }
-    ensures { IfOk result (λ finals. finals.items ≡ placed_finals log.now) }
+    ensures { IfOk result (λ last_tags. last_tags.items ≡ placed_last_tags log.now) }
 {
     let tags = log.finals();
-    let mut finals = Vec::with_capacity(alloc, tags.len())?;
+    let mut last_tags = Vec::with_capacity(alloc, tags.len())?;
     for tag in tags {
-        finals.push(place_tag(events, *tag))?;
+        last_tags.push(place_tag(events, *tag))?;
     }
-    Ok(finals)
+    Ok(last_tags)
 }

@@ -3,11 +3,11 @@ ghost use Rattle.std.specs.Prelude.{◌≡◌, ◌+◌, ◌^◌, ◌<◌, length
 ghost use Rattle.std.specs.List.{count_by, AllPairs};
 ghost use Rattle.replay_model.specs.WellFormed.{IsWellFormed};
 ghost use Rattle.constraints.specs.Positions.{event_list, counts_of};
-ghost use Rattle.constraints.specs.Constraints.{sources_of, lasts_of, base_of, impossible, group_of};
+ghost use Rattle.constraints.specs.Constraints.{sources_of, last_reads_of, base_of, impossible, group_of};
 
 use crate::edges::{base_edges, is_impossible};
 use crate::events::{list_events, thread_counts, thread_starts};
-use crate::placed::{place_entries, place_finals};
+use crate::placed::{place_entries, place_last_tags};
 use crate::reads::{last_rows, sorted_keys, sorted_reads, source_rows};
 use crate::rows::Rows;
 use dep_log::RunLog;
@@ -32,8 +32,8 @@ pub struct Problem {
     base: Vec<Edge>,
     // The sources of each word.
     sources: Rows,
-    // The lasts of each source, word after word.
-    lasts: Rows,
+    // The last reads of each source, word after word.
+    last_reads: Rows,
     impossible: bool,
 }
 
@@ -46,7 +46,7 @@ impl Model for Problem {
 
     ghost view = { λ p. p.log.value };
 
-    ghost invariant = { λ p. IsProblem p.log.value p.events.items p.starts.items p.counts.items p.base.items p.sources p.lasts p.impossible };
+    ghost invariant = { λ p. IsProblem p.log.value p.events.items p.starts.items p.counts.items p.base.items p.sources p.last_reads p.impossible };
 }
 
 // How many of the positions, which rise, are below this one.
@@ -81,14 +81,14 @@ impl Problem {
         let words = log.finals().len() as u16;
         let events = list_events(alloc, log)?;
         let placed = place_entries(alloc, log, &events)?;
-        let finals = place_finals(alloc, log, &events)?;
+        let last_tags = place_last_tags(alloc, log, &events)?;
         let reads = sorted_reads(alloc, &placed)?;
         let keys = sorted_keys(alloc, &reads)?;
         let sources = source_rows(alloc, words, &keys)?;
-        let lasts = last_rows(alloc, &keys, &reads)?;
+        let last_reads = last_rows(alloc, &keys, &reads)?;
         let starts = thread_starts(alloc, threads, &events)?;
         let counts = thread_counts(alloc, threads, &events)?;
-        let base = base_edges(alloc, &placed, &sources, &finals)?;
+        let base = base_edges(alloc, &placed, &sources, &last_tags)?;
         Ok(Problem {
             log: Snapshot::of(log),
             events,
@@ -96,8 +96,8 @@ impl Problem {
             counts,
             base,
             sources,
-            lasts,
-            impossible: is_impossible(&placed, &finals),
+            last_reads,
+            impossible: is_impossible(&placed, &last_tags),
         })
     }
 
@@ -126,7 +126,7 @@ impl Problem {
 
     /// The log's number of words.
     pub fn words(&self) -> u16
-        ensures { result ≡ length self.now.lasts }
+        ensures { result ≡ length self.now.last_tags }
     {
         self.sources.len() as u16
     }
@@ -140,25 +140,25 @@ impl Problem {
 
     /// The positions of the word's sources that are not initial, by rising tag.
     pub fn sources(&self, word: u16) -> &[u32]
-        requires { word < length self.now.lasts }
+        requires { word < length self.now.last_tags }
         ensures { result.now ≡ sources_of self.now word }
     {
         self.sources.row(usize::from(word))
     }
 
-    /// The positions of the lasts of all entries with the word's i-th source, rising.
+    /// The positions of the last reads of all entries with the word's i-th source, rising.
     pub fn lasts(&self, word: u16, i: u32) -> &[u32]
-        requires word { word < length self.now.lasts }
+        requires word { word < length self.now.last_tags }
         requires source { i < length (sources_of self.now word) }
-        ensures { result.now ≡ lasts_of self.now word i }
+        ensures { result.now ≡ last_reads_of self.now word i }
     {
-        self.lasts
+        self.last_reads
             .row(self.sources.start(usize::from(word)) + i as usize)
     }
 
     /// The places among the word's sources where those of the thread begin and end.
     pub fn group(&self, word: u16, thread: u8) -> (u32, u32)
-        requires word { word < length self.now.lasts }
+        requires word { word < length self.now.last_tags }
         requires thread { thread < length self.now.threads }
         ensures begin { result.0 ≡ (group_of self.now word thread).0 }
         ensures end { result.1 ≡ (group_of self.now word thread).1 }

@@ -83,11 +83,11 @@ fn sources(alloc: Global, keys: &[Key]) -> Result<Vec<u32>, Memory>
 }
 
 // The last of each read.
-fn lasts(alloc: Global, reads: &[Read]) -> Result<Vec<u32>, Memory>
-    ensures { IfOk result (λ lasts. lasts.items ≡ map (λ read. read.last) reads.now) }
+fn last_reads(alloc: Global, reads: &[Read]) -> Result<Vec<u32>, Memory>
+    ensures { IfOk result (λ last_reads. last_reads.items ≡ map (λ read. read.last) reads.now) }
 {
-    let lasts = reads.iter().map(|read| read.last).collect(alloc)?;
-    Ok(lasts)
+    let last_reads = reads.iter().map(|read| read.last).collect(alloc)?;
+    Ok(last_reads)
 }
 
 // How many keys are of words up to this one.
@@ -101,7 +101,7 @@ fn word_end(keys: &[Key], word: u16) -> usize
 /// The sources of each word, by position.
 pub fn source_rows(alloc: Global, words: u16, keys: &[Key]) -> Result<Rows, Memory>
     requires { AreInOrder keys.now }
-    ensures { (log : Log) → words ≡ length log.lasts → AreKeys log keys.now → IfOk result (λ rows. rows ≡ source_rows log) }
+    ensures { (log : Log) → words ≡ length log.last_tags → AreKeys log keys.now → IfOk result (λ rows. rows ≡ source_rows log) }
 {
     let mut starts = Vec::with_capacity(alloc, usize::from(words) + 1)?;
     starts.push(0)?;
@@ -126,7 +126,7 @@ fn key_end(reads: &[Read], key: &Key) -> usize
     reads.partition_point(|read| is_up_to(read, key))
 }
 
-/// The lasts of each source, by position.
+/// The last reads of each source, by position.
 pub fn last_rows(alloc: Global, keys: &[Key], reads: &[Read]) -> Result<Rows, Memory>
     requires keys { AreInOrder keys.now }
     requires reads { AreReadsInOrder reads.now }
@@ -137,7 +137,7 @@ pub fn last_rows(alloc: Global, keys: &[Key], reads: &[Read]) -> Result<Rows, Me
     for key in keys {
         starts.push(key_end(reads, key))?;
     }
-    Ok(Rows::new(lasts(alloc, reads)?, starts))
+    Ok(Rows::new(last_reads(alloc, reads)?, starts))
 }
 
 // The key of each read.

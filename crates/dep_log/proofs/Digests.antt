@@ -29,5 +29,5 @@ module _ (log : Log) (digest : List ℕ) where
   formed-kept h = record {
     range = h.range;
     threads = λ t l. thread-kept _ (h.threads t l);
-    lasts = λ word l. tag-kept _ (h.lasts word l);
+    last_tags = λ word l. tag-kept _ (h.last_tags word l);
   }

@@ -1,5 +1,5 @@
 -- The log of a thread's accesses: which write each of its reads saw. It says of accesses, which carry their numbers, what the log of a thread says of its steps.
-use Rattle.std.specs.Prelude.{ℕ, cond, eqb, Option, Some, None, List, [], ◌∷◌, ◌++◌, ◌<◌}
+use Rattle.std.specs.Prelude.{ℕ, ◌==◌, if◌then◌else◌, Option, Some, None, List, [], ◌∷◌, ◌++◌, ◌<◌}
 pub use Rattle.replay_model.specs.declared.Access.{Access}
 use Rattle.replay_model.specs.Steps.{Tag, Cell}
 pub use Rattle.replay_model.specs.declared.Entry.{Entry}
@@ -14,14 +14,14 @@ RiseAbove n (access ∷ accesses) = (n < access.step) × RiseAbove access.step a
 -- the numbers of the accesses that found this tag in this word
 abbrev pub sights : ℕ → Tag → List Access → List ℕ
 sights word tag [] = []
-sights word tag (access ∷ accesses) = cond (is_sight word tag access.word access.saw) (access.step ∷ []) [] ++ sights word tag accesses
+sights word tag (access ∷ accesses) = (if is_sight word tag access.word access.saw then access.step ∷ [] else []) ++ sights word tag accesses
 
 -- the entry of what access n found, at the first access that found it
 abbrev pub entry_of : List Access → ℕ → ℕ → Option Cell → List Entry
 entry_of accesses n word None = []
 entry_of accesses n word (Some cell) =
     let ns = sights word cell.tag accesses in
-    cond (eqb (least ns) n) (record { word = word; source = cell.tag; first = n; last = greatest ns } ∷ []) []
+    if least ns == n then record { word = word; source = cell.tag; first = n; last = greatest ns } ∷ [] else []
 
 abbrev pub entries_of_all : List Access → List Access → List Entry
 entries_of_all accesses [] = []

@@ -1,7 +1,8 @@
 -- Entries in buckets, each of which is a list of places: of its newest entry the place plus one, and for each entry that of the next older one. 0 is none.
-use Rattle.std.specs.Prelude.{◌≡◌, ◌≢◌, ℕ, ◌+◌, ◌-◌, ◌*◌, ◌/◌, ◌%◌, ◌^◌, ◌<◌, ◌≤◌, true, false, bit_and, Option, Some, None, List, length, slice_index, slice_index_or, vec_len, vec_capacity}
+use Rattle.std.specs.Prelude.{◌≡◌, ◌≢◌, ℕ, ◌+◌, ◌-◌, ◌*◌, ◌/◌, ◌%◌, ◌^◌, ◌<◌, ◌≤◌, true, false, bit_and, All, Option, Some, None, List, length, slice_index, slice_index_or, vec_len, vec_capacity}
 use Rattle.std.specs.Global.{Vec}
 use Rattle.light_base.specs.Tags.{bits_of}
+use Rattle.replay_model.specs.Bounds.{most_entries}
 use Rattle.replay_model.specs.Steps.{Tag}
 use Rattle.replay_model.specs.declared.Entry.{Entry}
 use Rattle.replay_model.specs.MoreReads.{is_entry_for}
@@ -49,9 +50,17 @@ pub record HasPlace (entries : Vec Entry) (older : Vec ℕ) : Type 0 where
   pub entry : vec_len entries < vec_capacity entries
   pub link : vec_len older < vec_capacity older
 
+-- one number for each of so many words, each the place of an entry plus one, or 0
+abbrev pub AreWithin : ℕ → List Entry → List ℕ → Type 0
+AreWithin words entries latest = (length latest ≡ words) × All (λ at. at ≤ length entries) latest
+
+-- memory was taken for so many entries, and for as many links
+abbrev pub HaveRoom : ℕ → Vec Entry → Vec ℕ → Type 0
+HaveRoom limit entries older = (limit ≤ vec_capacity entries) × (vec_capacity older ≡ vec_capacity entries)
+
 -- the state of a log that grows
 pub record AreKept (limit : ℕ) (entries : List Entry) (heads older : List ℕ) : Type 0 where
-  pub small : limit ≤ 16384
+  pub small : limit ≤ most_entries
   pub within : length entries ≤ limit
   pub buckets : AreBuckets entries heads older
   pub once : AreOnce entries

@@ -7,15 +7,20 @@ use Rattle.replay_model.specs.declared.Entry.{Entry}
 use Rattle.replay_model.specs.MoreReads.{is_entry_for}
 use Rattle.dep_log.specs.AccessLogs.{RiseAbove, access_log}
 
--- how many words there are, how many entries there may be, and the entries
+-- how many words there are, how many entries there may be, for how many of them memory was taken, and the entries
 pub record DepLogState : Type 0 where
   pub words : ℕ
   pub limit : ℕ
+  pub room : ℕ
   pub entries : List Entry
+
+-- these entries, and memory for as many as there may be
+abbrev pub log_with : ℕ → ℕ → List Entry → DepLogState
+log_with words limit entries = record { words = words; limit = limit; room = limit; entries = entries }
 
 -- a log without entries
 abbrev pub no_entries : ℕ → ℕ → DepLogState
-no_entries words limit = record { words = words; limit = limit; entries = [] }
+no_entries words limit = log_with words limit []
 
 -- the pair of word and tag has its entry, or there is room for one more
 abbrev pub HasRoom : DepLogState → ℕ → Tag → Type 0

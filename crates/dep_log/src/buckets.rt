@@ -1,9 +1,10 @@
 // Entries in buckets by word and source. Of each bucket the place of the newest entry is kept, and of each entry that of
-// the next older one of its bucket: each as the place plus one, where 0 is none.
-ghost use Rattle.std.specs.Prelude.{◌≡◌, false, ◌+◌, ◌<◌, ◌++◌, ◌∷◌, [], ◌^◌, length, vec_len, vec_capacity};
+// the next older one of its bucket: each as the place plus one, where 0 is none. Before the bucket the entry that was read
+// last at the word is looked at: a tag that left its word does not come back there, so it mostly is the one.
+ghost use Rattle.std.specs.Prelude.{◌≡◌, true, false, ◌+◌, ◌<◌, ◌≤◌, ◌++◌, ◌∷◌, [], ◌^◌, All, ℕ, List, IfSome, length, vec_len, vec_capacity};
 ghost use Rattle.std.specs.List.{list_any};
 ghost use Rattle.replay_model.specs.MoreReads.{is_entry_for, with_read};
-ghost use Rattle.dep_log.specs.Buckets.{bucket_of, AreBuckets, AreOnce, HasPlace, IsPlaceOf};
+ghost use Rattle.dep_log.specs.Buckets.{bucket_of, entry_at, AreBuckets, AreOnce, HasPlace, IsPlaceOf};
 
 use light_base::Tag;
 use replay_model::Entry;
@@ -78,7 +79,39 @@ pub(crate) fn push(
     heads[bucket] = entries.len() as u16;
 }
 
-// Logs a read of a word that its source had written, where the pair has its entry or there is room for one more.
+// The place of the entry that was read last at this word, where it is of this source.
+pub(crate) fn last_read(entries: &[Entry], latest: &[u16], word: u16, source: Tag) -> Option<usize>
+    requires word { word < length latest.now }
+    requires within { All (λ at. at ≤ length entries.now) latest.now }
+    ensures { IfSome result (λ place. IsPlaceOf entries.now word source (Some place)) }
+{
+    let at = latest[usize::from(word)];
+    if at == 0 {
+        return None;
+    }
+    let place = usize::from(at) - 1;
+    let entry = &entries[place];
+    if entry.word == word && entry.source.bits() == source.bits() {
+        return Some(place);
+    }
+    None
+}
+
+// Has the entry of a word and a source, which stands at this place, end at this step.
+pub(crate) fn end_at(entries: &mut Vec<Entry>, place: usize, word: u16, source: Tag, step: u32)
+    requires place { IsPlaceOf entries.old.items word source (Some place) }
+    requires once { AreOnce entries.old.items }
+    ensures items { entries.new.items ≡ with_read word source step entries.old.items }
+    ensures buckets { (heads older : List ℕ) → AreBuckets entries.old.items heads older → AreBuckets entries.new.items heads older }
+    ensures once { AreOnce entries.new.items }
+    ensures length { length entries.new.items ≡ length entries.old.items }
+    ensures room { vec_capacity entries.new ≡ vec_capacity entries.old }
+{
+    entries[place].last = step;
+}
+
+// Logs a read of a word that its source had written, where the pair has its entry or there is room for one more. The place
+// of its entry.
 pub(crate) fn note(
     entries: &mut Vec<Entry>,
     heads: &mut Vec<u16>,
@@ -86,11 +119,13 @@ pub(crate) fn note(
     word: u16,
     source: Tag,
     step: u32,
-)
+) -> usize
     requires buckets { AreBuckets entries.old.items heads.old.items older.old.items }
     requires once { AreOnce entries.old.items }
     requires room { list_any (is_entry_for word source) entries.old.items ≡ false → HasPlace entries.old older.old }
     ensures items { entries.new.items ≡ with_read word source step entries.old.items }
+    ensures place { result < length entries.new.items }
+    ensures longer { length entries.old.items ≤ length entries.new.items }
     ensures buckets { AreBuckets entries.new.items heads.new.items older.new.items }
     ensures once { AreOnce entries.new.items }
     ensures entry_room { vec_capacity entries.new ≡ vec_capacity entries.old }
@@ -98,7 +133,10 @@ pub(crate) fn note(
 {
     let bucket = bucket_of(heads.len(), word, source);
     match find(entries, heads, older, bucket, word, source) {
-        Some(place) => entries[place].last = step,
+        Some(place) => {
+            end_at(entries, place, word, source, step);
+            place
+        }
         None => {
             let entry = Entry {
                 word,
@@ -106,7 +144,9 @@ pub(crate) fn note(
                 first: step,
                 last: step,
             };
+            let place = entries.len();
             push(entries, heads, older, bucket, entry);
+            place
         }
     }
 }

@@ -16,7 +16,7 @@ pub struct RunLog {
     digest: [u8; 32],
     limits: Limits,
     threads: Vec<ThreadLog>,
-    finals: Vec<Tag>,
+    last_tags: Vec<Tag>,
 }
 
 impl Model for RunLog {
@@ -26,9 +26,9 @@ impl Model for RunLog {
 
     ghost use Rattle.replay_model.specs.WellFormed.{IsWellFormed};
 
-    ghost view = { λ l. record { digest = l.digest; limits = l.limits; threads = l.threads.items; lasts = l.finals.items } };
+    ghost view = { λ l. record { digest = l.digest; limits = l.limits; threads = l.threads.items; last_tags = l.last_tags.items } };
 
-    ghost invariant = { λ l. IsWellFormed (record { digest = l.digest; limits = l.limits; threads = l.threads.items; lasts = l.finals.items }) };
+    ghost invariant = { λ l. IsWellFormed (record { digest = l.digest; limits = l.limits; threads = l.threads.items; last_tags = l.last_tags.items }) };
 }
 
 impl RunLog {
@@ -37,16 +37,16 @@ impl RunLog {
         digest: [u8; 32],
         limits: Limits,
         threads: Vec<ThreadLog>,
-        finals: Vec<Tag>,
+        last_tags: Vec<Tag>,
     ) -> RunLog
-        requires { IsWellFormed (record { digest = digest; limits = limits; threads = threads.items; lasts = finals.items }) }
-        ensures { result ≡ record { digest = digest; limits = limits; threads = threads.items; lasts = finals.items } }
+        requires { IsWellFormed (record { digest = digest; limits = limits; threads = threads.items; last_tags = last_tags.items }) }
+        ensures { result ≡ record { digest = digest; limits = limits; threads = threads.items; last_tags = last_tags.items } }
     {
         RunLog {
             digest,
             limits,
             threads,
-            finals,
+            last_tags,
         }
     }
 
@@ -81,10 +81,10 @@ impl RunLog {
 
     /// The tag that each word has at the end.
     pub fn finals(&self) -> &[Tag]
-        ensures value { result.now ≡ self.now.lasts }
+        ensures value { result.now ≡ self.now.last_tags }
         ensures rules { IsWellFormed self.now }
     {
-        &self.finals
+        &self.last_tags
     }
 
     /// The digest, the limits, the threads' logs and the last tags.
@@ -92,10 +92,10 @@ impl RunLog {
         ensures digest { result.0 ≡ self.digest }
         ensures limits { result.1 ≡ self.limits }
         ensures threads { result.2.items ≡ self.threads }
-        ensures finals { result.3.items ≡ self.lasts }
+        ensures last_tags { result.3.items ≡ self.last_tags }
         ensures rules { IsWellFormed self }
     {
         let digest = self.digest;
-        (digest, self.limits, self.threads, self.finals)
+        (digest, self.limits, self.threads, self.last_tags)
     }
 }

@@ -1,6 +1,5 @@
 pub mod Seats
 pub mod Playing
-pub mod Steps
 pub mod Turns
 pub mod Whole
 pub mod Reports

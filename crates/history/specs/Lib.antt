@@ -1,4 +1,5 @@
 pub mod Played
+pub mod Words
 pub mod Playing
 pub mod Stepping
 pub mod Histories

@@ -9,11 +9,13 @@ ghost use Rattle.history.specs.Played.{unplayed, world_of, thread_steps, after_t
 ghost use Rattle.history.specs.Playing.{AreFresh, MayReport, seat_report};
 ghost use Rattle.history.specs.Stepping.{IsStep};
 
-use crate::cells::opening_cells;
 use crate::seat::Seat;
+use crate::words::PlainWords;
 use light_base::{Cell, Memory};
-use machine::{Access, End, Inputs, Limits, Program, RunReport, Want};
+use machine::{Access, End, Inputs, Limits, Program, RunReport};
 use replay_model::Entry;
+use running_thread::Setting;
+use running_thread::cells::opening_cells;
 use std::alloc::Global;
 use std::marker::Model;
 
@@ -36,7 +38,7 @@ pub struct Plain<'p> {
     program: &'p Program,
     limits: Limits,
     inputs: &'p Inputs,
-    cells: Vec<Cell>,
+    words: PlainWords,
     seats: Vec<Seat>,
     taken: Vec<u8>,
     alloc: Global,
@@ -51,20 +53,28 @@ impl<'p> Model for Plain<'p> {
 
     ghost view = { λ p. record { program = p.program.now; limits = p.limits; inputs = p.inputs.now; taken = p.taken.items } };
 
-    ghost invariant = { λ p. IsPlaying (record { program = p.program.now; limits = p.limits; inputs = p.inputs.now; taken = p.taken.items }) p.cells.items p.seats.items };
+    ghost invariant = { λ p. IsPlaying (record { program = p.program.now; limits = p.limits; inputs = p.inputs.now; taken = p.taken.items })
+        p.words p.seats.items };
 }
 
-// The threads before any step, each with so many words and at most so many entries in its log.
-fn opening_seats(alloc: Global, count: u8, words: u16, limit: u32) -> Result<Vec<Seat>, Memory>
-    requires count { count ≤ 15 }
-    requires some_word { 1 ≤ words }
-    requires words { words ≤ 4096 }
-    requires limit { limit ≤ 16384 }
-    ensures { IfOk result (λ seats. AreFresh words limit count seats.items) }
+// The threads before any step.
+fn opening_seats(
+    alloc: Global,
+    program: &Program,
+    limits: &Limits,
+    inputs: &Inputs,
+) -> Result<Vec<Seat>, Memory>
+    requires { length inputs.now ≡ length program.now.threads }
+    ensures { IfOk result (λ seats. AreFresh program.now limits.now inputs.now (length program.now.threads) seats.items) }
 {
     let mut seats = Vec::new(alloc);
-    for thread in 0..count {
-        seats.push(Seat::new(alloc, thread, words, limit)?)?;
+    for thread in 0..program.threads_count() as u8 {
+        let on = Setting {
+            program,
+            limits,
+            inputs: inputs.threads(usize::from(thread)),
+        };
+        seats.push(Seat::new(alloc, thread, &on)?)?;
     }
     Ok(seats)
 }
@@ -99,15 +109,13 @@ impl<'p> Plain<'p> {
         requires { length inputs.now ≡ length program.now.threads }
         ensures { IfOk result (λ plain. plain ≡ unplayed program.now limits inputs.now) }
     {
-        let words = program.words();
-        let cells = opening_cells(alloc, words)?;
-        let count = program.threads_count() as u8;
-        let seats = opening_seats(alloc, count, words.len() as u16, limits.entries())?;
+        let cells = opening_cells(alloc, program.words())?;
+        let seats = opening_seats(alloc, program, &limits, inputs)?;
         Ok(Plain {
             program,
             limits,
             inputs,
-            cells,
+            words: PlainWords { cells },
             seats,
             taken: Vec::new(alloc),
             alloc,
@@ -120,15 +128,20 @@ impl<'p> Plain<'p> {
         ensures ok { IfOk result (λ stepped. IsStep self.old thread stepped self.new) }
         ensures err { OnErr result (self.new ≡ self.old) }
     {
-        let place = usize::from(thread);
-        let want = self.seats[place].run(self.program, &self.limits, self.inputs)?;
-        if let Want::Ended(end) = want {
-            return Ok(Stepped::Ended(end));
-        }
         self.taken.reserve(1)?;
-        let access = self.seats[place].step(&mut self.cells, thread, &want)?;
-        self.taken.push_reserved(thread);
-        Ok(Stepped::Took(access))
+        let place = usize::from(thread);
+        let on = Setting {
+            program: self.program,
+            limits: &self.limits,
+            inputs: self.inputs.threads(place),
+        };
+        match self.seats[place].step(&on, &mut self.words)? {
+            Stepped::Took(access) => {
+                self.taken.push_reserved(thread);
+                Ok(Stepped::Took(access))
+            }
+            Stepped::Ended(end) => Ok(Stepped::Ended(end)),
+        }
     }
 
     // How many threads there are.
@@ -212,14 +225,14 @@ impl<'p> Plain<'p> {
         requires { thread < length self.now.program.threads }
         ensures { result.now ≡ thread_log (thread_steps self.now thread) }
     {
-        self.seats[usize::from(thread)].log.entries()
+        self.seats[usize::from(thread)].thread.log.entries()
     }
 
     /// The words, each with its last writer.
     pub fn cells(&self) -> &[Cell]
         ensures { result.now ≡ (world_of self.now).memory }
     {
-        &self.cells
+        &self.words.cells
     }
 
     /// The last value of each word.
@@ -227,6 +240,7 @@ impl<'p> Plain<'p> {
         ensures { IfOk result (λ values. values.items ≡ values_of (world_of self.now)) }
     {
         let values = self
+            .words
             .cells
             .iter()
             .map(|cell| cell.value)
@@ -243,7 +257,7 @@ impl<'p> Plain<'p> {
             program,
             limits,
             inputs,
-            cells: _,
+            words: _,
             seats,
             taken: _,
             alloc,

@@ -1,13 +1,13 @@
 // Numbers in bytes, the highest byte first.
 ghost use Rattle.std.specs.Prelude.{◌≡◌, ◌↔◌, ◌+◌, ◌^◌, ◌<◌, ◌≤◌, ℕ, Some, length, slice_range, IsSome, MatchOption};
 ghost use Rattle.std.specs.Int.{w16, w32, to_be_bytes};
-ghost use Rattle.light_base.specs.Numbers.{big_endian_at};
+ghost use Rattle.light_base.specs.Numbers.{big_endian_at, IsPart};
 
 use byteorder::{BigEndian, ByteOrder};
 
 // A field of so many bytes at a place. None where the bytes end before.
 fn field_at(bytes: &[u8], at: usize, len: usize) -> Option<&[u8]>
-    ensures { MatchOption result (length bytes.now < at + len) (λ field. (at + len ≤ length bytes.now) × (field.now ≡ slice_range bytes.now at (at + len))) }
+    ensures { MatchOption result (length bytes.now < at + len) (λ field. IsPart bytes.now at len field.now) }
 {
     bytes.get(at..)?.get(..len)
 }

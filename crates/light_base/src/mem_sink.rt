@@ -1,8 +1,8 @@
 // A sink in memory. Its puts are numbered from 1, and those whose number is in a list fail.
-ghost use Rattle.std.specs.Prelude.{◌≡◌, ◌<◌, ◌≤◌, ◌^◌, ◌++◌, Some, is_some, IfOk, IfErr, OnOk, OnErr, length, take, min};
-ghost use Rattle.light_base.specs.Taken.{PutFails};
+ghost use Rattle.std.specs.Prelude.{◌≡◌, ◌<◌, ◌≤◌, ◌^◌, IfOk, length, min};
+ghost use Rattle.light_base.specs.Sinks.{Put};
 ghost use Rattle.light_base.specs.Answered.{put_has_failed};
-ghost use Rattle.light_base.specs.InMemory.{is_failing, empty_sink};
+ghost use Rattle.light_base.specs.InMemory.{is_failing, empty_sink, sink_told};
 ghost use Rattle.light_base.specs.Putting.{sink_after};
 
 use crate::{Sink, SinkFault};
@@ -58,21 +58,11 @@ impl MemSink {
 }
 
 impl Sink for MemSink {
-    ghost taken = { λ s. Some s.taken };
-
-    ghost faults = { λ s. s.faults };
+    ghost told = { sink_told };
 
     fn put(&mut self, bytes: &[u8]) -> Result<usize, SinkFault>
         requires { 0 < length bytes.now }
-        ensures some { IfOk result (λ count. 1 ≤ count) }
-        ensures within { IfOk result (λ count. count ≤ length bytes.now) }
-        ensures appended { IfOk result (λ count. Some self.new.taken ≡ Some (self.old.taken ++ take count bytes.now)) }
-        ensures refused { OnErr result (Some self.new.taken ≡ Some self.old.taken) }
-        ensures cause { IfErr result (PutFails self.old.faults self.new.faults) }
-
-        ensures tells { is_some (Some self.new.taken) ≡ is_some (Some self.old.taken) }
-        ensures faults { self.old.faults ≤ self.new.faults }
-        ensures quiet { OnOk result (self.new.faults ≡ self.old.faults) }
+        ensures put { Put (sink_told self.old) (sink_told self.new) bytes.now result }
         ensures counted { self.new.faults < 2 ^ 64 }
 
         // It fails exactly where its number is among those that fail.

@@ -1,11 +1,11 @@
 // A store in memory. The calls of `load` and `save` are numbered together, from 1, and those whose number is in
 // a list fail.
-ghost use Rattle.std.specs.Prelude.{◌≡◌, ◌≤◌, ◌<◌, ◌^◌, true, false, is_some, IfOk, IfErr, OnOk, OnErr, IsErrOf, length, option_copied};
+ghost use Rattle.std.specs.Prelude.{◌≡◌, ◌<◌, ◌^◌, true, false, OnOk, OnErr, IsErrOf, option_copied};
 ghost use Rattle.std.specs.FinMap.{get, insert};
 ghost use Rattle.light_base.specs.FileMap.{files_of};
-ghost use Rattle.light_base.specs.Files.{SameButAt, LoadFails, SaveFails};
+ghost use Rattle.light_base.specs.Stores.{Loaded, Saved};
 ghost use Rattle.light_base.specs.Answered.{has_failed, is_too_long};
-ghost use Rattle.light_base.specs.InMemory.{is_failing, is_empty, empty_store};
+ghost use Rattle.light_base.specs.InMemory.{is_failing, empty_store, store_told};
 ghost use Rattle.light_base.specs.Loading.{called, load_fails, load_too_long};
 ghost use Rattle.light_base.specs.Saving.{store_after, with_file};
 
@@ -100,24 +100,10 @@ impl MemStore {
 }
 
 impl Store for MemStore {
-    ghost use Rattle.std.specs.Prelude.{Some};
-    ghost use Rattle.light_base.specs.InMemory.{is_empty};
-
-    ghost files = { λ s. Some s.files };
-
-    ghost sound = { λ s. is_empty s.fail };
-
-    ghost faults = { λ s. s.faults };
+    ghost told = { store_told };
 
     fn load(&mut self, alloc: Global, name: &str, cap: u64) -> Result<Vec<u8>, StoreFault>
-        ensures loaded { IfOk result (λ bytes. get self.old.files name.now ≡ Some bytes.items) }
-        ensures fits { IfOk result (λ bytes. length bytes.items ≤ cap) }
-        ensures cause { IfErr result (LoadFails (Some self.old.files) (is_empty self.old.fail) name.now cap self.old.faults self.new.faults) }
-
-        ensures files { Some self.new.files ≡ Some self.old.files }
-        ensures sound { is_empty self.new.fail ≡ is_empty self.old.fail }
-        ensures faults { self.old.faults ≤ self.new.faults }
-        ensures quiet { OnOk result (self.new.faults ≡ self.old.faults) }
+        ensures loaded { Loaded (store_told self.old) (store_told self.new) name.now cap result }
         ensures counted { self.new.faults < 2 ^ 64 }
 
         // It fails exactly where its number is among those that fail, or the name isn't there. Where it doesn't, it
@@ -144,14 +130,7 @@ impl Store for MemStore {
     }
 
     fn save(&mut self, name: &str, bytes: &[u8]) -> Result<(), StoreFault>
-        ensures saved { OnOk result (Some self.new.files ≡ Some (insert self.old.files name.now bytes.now)) }
-        ensures refused { OnErr result (SameButAt (Some self.old.files) (Some self.new.files) name.now) }
-        ensures cause { IfErr result (SaveFails (Some self.old.files) (Some self.new.files) (is_empty self.old.fail) self.old.faults self.new.faults) }
-
-        ensures tells { is_some (Some self.new.files) ≡ is_some (Some self.old.files) }
-        ensures sound { is_empty self.new.fail ≡ is_empty self.old.fail }
-        ensures faults { self.old.faults ≤ self.new.faults }
-        ensures quiet { OnOk result (self.new.faults ≡ self.old.faults) }
+        ensures saved { Saved (store_told self.old) (store_told self.new) name.now bytes.now result }
         ensures counted { self.new.faults < 2 ^ 64 }
 
         // But for want of memory, it fails exactly where its number is among those that fail.

@@ -19,3 +19,12 @@ impl<T: Drop> From<AllocFailed<T>> for Memory {
         Memory
     }
 }
+
+// The answer of a thread moves to the one that waits for it.
+fn crosses(answer: Memory) -> Memory {
+    is_moved(answer)
+}
+
+fn is_moved<T: Send>(value: T) -> T {
+    value
+}

@@ -1,6 +1,6 @@
 // Where text goes, whatever takes it.
-ghost use Rattle.std.specs.Prelude.{◌≡◌, ◌<◌, ◌≤◌, ◌^◌, ℕ, List, Option, is_some, length, take, IfOk, IfErr, OnOk, OnErr};
-ghost use Rattle.light_base.specs.Taken.{Appended, PutFails};
+ghost use Rattle.std.specs.Prelude.{◌≡◌, ◌<◌, ◌^◌, length};
+ghost use Rattle.light_base.specs.Sinks.{SinkTold, Put};
 
 use std::alloc::AllocError;
 
@@ -25,26 +25,15 @@ impl From<AllocError> for SinkFault {
 
 /// What takes bytes, in pieces.
 ///
-/// Whether a sink tells what it took never changes. One that takes no byte of a piece counts a fault and answers
-/// `Failed`, and no other answer counts one.
+/// Whether a sink tells what it took never changes. One that takes no byte of a piece counts one fault and answers
+/// `Failed`, and no other answer counts one. The count stands still at 2^64 - 1.
 pub trait Sink {
-    /// The bytes taken so far, where the sink tells them.
-    ghost taken: { Self → Option (List ℕ) };
-
-    /// How many faults were counted, at most 2^64 - 1, where the count stands still.
-    ghost faults: { Self → ℕ };
+    /// What it tells of itself.
+    ghost told: { Self → SinkTold };
 
     /// Takes some of the bytes from the front, at least one, and says how many. After a refusal nothing was taken.
     fn put(&mut self, bytes: &[u8]) -> Result<usize, SinkFault>
         requires { 0 < length bytes.now }
-        ensures some { IfOk result (λ count. 1 ≤ count) }
-        ensures within { IfOk result (λ count. count ≤ length bytes.now) }
-        ensures appended { IfOk result (λ count. Appended (taken self.old) (taken self.new) (take count bytes.now)) }
-        ensures refused { OnErr result (taken self.new ≡ taken self.old) }
-        ensures cause { IfErr result (PutFails (faults self.old) (faults self.new)) }
-
-        ensures tells { is_some (taken self.new) ≡ is_some (taken self.old) }
-        ensures faults { faults self.old ≤ faults self.new }
-        ensures quiet { OnOk result (faults self.new ≡ faults self.old) }
-        ensures counted { faults self.new < 2 ^ 64 };
+        ensures put { Put (told self.old) (told self.new) bytes.now result }
+        ensures counted { (told self.new).faults < 2 ^ 64 };
 }

@@ -1,7 +1,6 @@
 // Files that can be loaded and saved, whatever keeps them.
-ghost use Rattle.std.specs.Prelude.{◌≡◌, ◌≤◌, ◌<◌, ◌^◌, ℕ, Bool, Option, length, is_some, IfOk, IfErr, OnOk, OnErr};
-ghost use Rattle.light_base.specs.FileMap.{Files};
-ghost use Rattle.light_base.specs.Files.{Has, SavedAs, SameButAt, LoadFails, SaveFails};
+ghost use Rattle.std.specs.Prelude.{◌≡◌, ◌<◌, ◌^◌};
+ghost use Rattle.light_base.specs.Stores.{StoreTold, Loaded, Saved};
 
 use crate::Memory;
 use std::alloc::{AllocError, Global};
@@ -40,17 +39,12 @@ impl From<Memory> for StoreFault {
 
 /// Where files are loaded from and saved to.
 ///
-/// Whether a store tells its files never changes, nor whether it is sound. A call counts a fault only where it answers
-/// `Failed`.
+/// Whether a store tells its files never changes, nor whether it is sound. A sound store that tells its files fails no
+/// call but a load of a name that isn't there. A call counts one fault where it answers `Failed`, and no other answer
+/// counts one. The count stands still at 2^64 - 1.
 pub trait Store {
-    /// The files, where the store tells them.
-    ghost files: { Self → Option Files };
-
-    /// A sound store that tells its files fails no call but a load of a name that isn't there.
-    ghost sound: { Self → Bool };
-
-    /// How many faults were counted, at most 2^64 - 1, where the count stands still.
-    ghost faults: { Self → ℕ };
+    /// What it tells of itself.
+    ghost told: { Self → StoreTold };
 
     /// The whole bytes of a file, at most `cap` of them. The files stay as they are.
     ///
@@ -58,28 +52,14 @@ pub trait Store {
     /// `Memory`, or, where the store isn't sound, `Failed`. Where it has no such name, the answer is `Failed` or
     /// `Memory`.
     fn load(&mut self, alloc: Global, name: &str, cap: u64) -> Result<Vec<u8>, StoreFault>
-        ensures loaded { IfOk result (λ bytes. Has (files self.old) name.now bytes.items) }
-        ensures fits { IfOk result (λ bytes. length bytes.items ≤ cap) }
-        ensures cause { IfErr result (LoadFails (files self.old) (sound self.old) name.now cap (faults self.old) (faults self.new)) }
-
-        ensures files { files self.new ≡ files self.old }
-        ensures sound { sound self.new ≡ sound self.old }
-        ensures faults { faults self.old ≤ faults self.new }
-        ensures quiet { OnOk result (faults self.new ≡ faults self.old) }
-        ensures counted { faults self.new < 2 ^ 64 };
+        ensures loaded { Loaded (told self.old) (told self.new) name.now cap result }
+        ensures counted { (told self.new).faults < 2 ^ 64 };
 
     /// Gives a file these bytes, and leaves all others as they are. After `Failed` the file has any bytes, or isn't
     /// there; after `Memory` all files are as they were.
     ///
     /// A sound store that tells its files refuses nothing but for want of memory.
     fn save(&mut self, name: &str, bytes: &[u8]) -> Result<(), StoreFault>
-        ensures saved { OnOk result (SavedAs (files self.old) (files self.new) name.now bytes.now) }
-        ensures refused { OnErr result (SameButAt (files self.old) (files self.new) name.now) }
-        ensures cause { IfErr result (SaveFails (files self.old) (files self.new) (sound self.old) (faults self.old) (faults self.new)) }
-
-        ensures tells { is_some (files self.new) ≡ is_some (files self.old) }
-        ensures sound { sound self.new ≡ sound self.old }
-        ensures faults { faults self.old ≤ faults self.new }
-        ensures quiet { OnOk result (faults self.new ≡ faults self.old) }
-        ensures counted { faults self.new < 2 ^ 64 };
+        ensures saved { Saved (told self.old) (told self.new) name.now bytes.now result }
+        ensures counted { (told self.new).faults < 2 ^ 64 };
 }

@@ -1,7 +1,7 @@
 // How the program ends: with which exit status, and what it tells.
-ghost use Rattle.std.specs.Prelude.{◌≡◌, ◌⊎◌, OnOk, OnErr, IfErr};
+ghost use Rattle.std.specs.Prelude.{◌≡◌};
 ghost use Rattle.std.specs.Process.{exit_status};
-ghost use Rattle.light_base.specs.Taken.{Appended, PutFails, TookFront};
+ghost use Rattle.light_cli.specs.Telling.{Tells};
 ghost use Rattle.light_top.specs.Statuses.{code_of, status_line};
 
 use light_base::{Sink, SinkFault, put_all};
@@ -18,10 +18,7 @@ pub fn exit_code(status: &Status) -> ExitCode
 
 /// Tells the line of a status. After a refusal the sink has taken nothing, or a front of the line, and not all of it.
 pub fn tell<K: Sink>(alloc: Global, out: &mut K, status: &Status) -> Result<(), SinkFault>
-    ensures ok { OnOk result (Appended (K.taken out.old) (K.taken out.new) (status_line status.now)) }
-    ensures refused { OnErr result ((K.taken out.new ≡ K.taken out.old) ⊎ TookFront (K.taken out.old) (K.taken out.new) (status_line status.now)) }
-    ensures cause { IfErr result (PutFails (K.faults out.old) (K.faults out.new)) }
-    ensures quiet { OnOk result (K.faults out.new ≡ K.faults out.old) }
+    ensures { Tells (K.told out.old) (K.told out.new) (status_line status.now) result }
 {
     match status_text(alloc, status) {
         Ok(line) => put_all(out, &line),

@@ -1,7 +1,8 @@
 // A store over real files. It tells nothing of them.
-ghost use Rattle.std.specs.Prelude.{None, false, ◌≡◌, ◌≤◌, ◌<◌, ◌^◌, length, IfOk, IfErr, IfSome, OnOk, ◌+◌};
+ghost use Rattle.std.specs.Prelude.{◌≡◌, ◌≤◌, ◌<◌, ◌^◌, length, IfOk, IfErr, IfSome, OnOk, ◌+◌};
 ghost use Rattle.std.specs.Io.KnownBytes.{Appends};
 ghost use Rattle.light_cli.specs.Reading.{ReadFails};
+ghost use Rattle.light_cli.specs.Telling.{untold_files};
 
 use light_base::{Store, StoreFault};
 use std::alloc::Global;
@@ -67,11 +68,7 @@ fn write_whole<W: Write>(file: &mut W, bytes: &[u8]) -> Result<(), StoreFault>
 }
 
 impl<R: Files> Store for FileStore<'_, R> {
-    ghost files = { λ _. None };
-
-    ghost sound = { λ _. false };
-
-    ghost faults = { λ s. s.faults };
+    ghost told = { λ s. untold_files s.faults };
 
     fn load(&mut self, alloc: Global, name: &str, cap: u64) -> Result<Vec<u8>, StoreFault> {
         let outcome = match fs::open(self.rt, name) {

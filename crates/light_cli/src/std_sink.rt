@@ -1,7 +1,8 @@
 // A sink over any writer. It tells nothing of the bytes, but hands them to the writer.
-ghost use Rattle.std.specs.Prelude.{None, ◌≡◌, ◌<◌, ◌≤◌, ◌^◌, length, take, IfOk, IfErr, IfSome, IfNone, OnOk, OnErr};
+ghost use Rattle.std.specs.Prelude.{◌≡◌, ◌<◌, ◌≤◌, ◌^◌, length, take, IfOk, IfSome, IfNone, OnErr};
 ghost use Rattle.std.specs.Io.KnownBytes.{Keeps, Appends};
-ghost use Rattle.light_base.specs.Taken.{PutFails};
+ghost use Rattle.light_base.specs.Sinks.{Put};
+ghost use Rattle.light_cli.specs.Telling.{untold_bytes};
 
 use light_base::{Sink, SinkFault};
 use std::io::{ErrorKind, Write};
@@ -45,18 +46,11 @@ fn write_some<W: Write>(writer: &mut W, bytes: &[u8]) -> Option<usize>
 }
 
 impl<W: Write> Sink for StdSink<W> {
-    ghost taken = { λ _. None };
-
-    ghost faults = { λ s. s.faults };
+    ghost told = { λ s. untold_bytes s.faults };
 
     fn put(&mut self, bytes: &[u8]) -> Result<usize, SinkFault>
         requires { 0 < length bytes.now }
-        ensures some { IfOk result (λ count. 1 ≤ count) }
-        ensures within { IfOk result (λ count. count ≤ length bytes.now) }
-        ensures cause { IfErr result (PutFails self.old.faults self.new.faults) }
-
-        ensures faults { self.old.faults ≤ self.new.faults }
-        ensures quiet { OnOk result (self.new.faults ≡ self.old.faults) }
+        ensures put { Put (untold_bytes self.old.faults) (untold_bytes self.new.faults) bytes.now result }
         ensures counted { self.new.faults < 2 ^ 64 }
 
         // What is said to be taken is what the writer got.

@@ -1,6 +1,7 @@
 -- What follows from how a command ended.
 use Rattle.std.proofs.Common.{◌≡◌, ℕ, List, Option, None, Some, Result, Ok, Err, IfOk, IfSome, IsOkAnd, IsTrue, sym, refl, subst, inl, inr, ◌⊎◌}
 use Rattle.light_base.specs.FileMap.{Files}
+use Rattle.light_base.specs.Stores.{StoreTold}
 use Rattle.light_top.specs.Outputs.{Output}
 use Rattle.machine.specs.Inputs.{InputsValue}
 use Rattle.light_top.specs.Given.{◌>>=◌, numbers_in, matched, inputs_in, given, Gives}
@@ -14,7 +15,8 @@ use Rattle.light_top.specs.declared.status.Status.{Status}
 use Rattle.light_top.specs.declared.status.Status.TheVariants as status
 
 -- what a task means is meant by the command that it was given for
-pub is_meant : (files : Option Files) (command : Command) (task : Task) (output : Output) → Gives files (given command) task → Means task output → IfSome files (λ fs. IsOkAnd (given command fs) (λ t. Means t output))
+pub is_meant : (files : Option Files) (command : Command) (task : Task) (output : Output) → IfSome files (λ fs. given command fs ≡ Ok task) → Means task output →
+    IfSome files (λ fs. IsOkAnd (given command fs) (λ t. Means t output))
 is_meant None command task output gives means = tt
 is_meant (Some fs) command task output gives means = subst (λ r. IsOkAnd r (λ t. Means t output)) (sym gives) means
 
@@ -40,20 +42,24 @@ module _ (command : Command) (files : Files) (task : Task) (is : given command f
   pub of_task : (P : Task → Type 0) → IfSome all (λ fs. IsOkAnd (given command fs) P) → P task
   of_task P h = subst (λ (r : Result Task Status). IsOkAnd r P) is (of_files (λ fs. IsOkAnd (given command fs) P) h)
 
-module _ (command : Command) (files : Files) (task : Task) (is : given command files ≡ Ok task) (old new : Outside) (told : old.files ≡ Some files) (none : (output : Output) → Means task output → ⊥) where
+module _ (command : Command) (files : Files) (task : Task) (is : given command files ≡ Ok task) (old new : Outside) (told : old.store.files ≡ Some files) (none : (output : Output) → Means task output → ⊥) where
   abbrev Answer : Status → Type 0
-  Answer s = (IsFailure s × Fails task s) ⊎ IsExcused old.sound s
+  Answer s = (IsFailure s × Fails task s) ⊎ IsExcused old.store.sound s
 
   early : (s : Status) → EndsEarly command old new s → Answer s
   early status.StoreFault h =
-      inr (inr (refl, λ sound. not_refused command files task is (Some files) refl status.StoreFault (subst (λ (fs : Option Files). IfSome fs (λ f. IsTrue old.sound → given command f ≡ Err status.StoreFault)) told h.1 sound)))
+      inr (inr (
+        refl,
+        λ sound. not_refused command files task is (Some files) refl status.StoreFault
+            (subst (λ (fs : Option Files). IfSome fs (λ f. IsTrue old.store.sound → given command f ≡ Err status.StoreFault)) told h.0.0 sound),
+      ))
   early status.Memory h = inr (inl refl)
-  early s h = absurd (not_refused command files task is old.files told s h.1)
+  early s h = absurd (not_refused command files task is old.store.files told s h.0.0)
 
   answered : (s : Status) → Ends command old new s → Answer s
   answered s (inl h) = early s h
-  answered s (inr (inl late)) = absurd (none late.output (of_task command files task is old.files told (λ (t : Task). Means t late.output) late.meant))
-  answered s (inr (inr h)) = inl (h.0, of_task command files task is old.files told (λ (t : Task). Fails t s) h.1)
+  answered s (inr (inl late)) = absurd (none late.output (of_task command files task is old.store.files told (λ (t : Task). Means t late.output) late.meant))
+  answered s (inr (inr h)) = inl (h.0, of_task command files task is old.store.files told (λ (t : Task). Fails t s) h.1)
 
 -- where the files are told, this is so of them
 pub each_file : (all : Option Files) (P : Files → Type 0) → ((fs : Files) → all ≡ Some fs → P fs) → IfSome all P
@@ -61,13 +67,17 @@ each_file None P f = tt
 each_file (Some fs) P f = f fs refl
 
 -- a task that nothing can be of is answered by why it cannot be done
-pub declined : (command : Command) (old new : Outside) (s : Status) → Ends command old new s → IfSome old.files (λ files. Declines command files old.sound s)
-declined command old new s ends = each_file old.files _ (λ files told task is none. answered command files task is old new told none s ends)
+pub declined : (command : Command) (old new : Outside) (s : Status) → Ends command old new s → Declines command old.store s
+declined command old new s ends = each_file old.store.files _ (λ files told task is none. answered command files task is old new told none s ends)
 
 -- inputs that the files give, and that match the program
-pub gives_matched : (files : Option Files) (name : Option (List ℕ)) (own : List ℕ) (threads : ℕ) (inputs : InputsValue) (result : Result InputsValue Status) → name ≡ Some own →
-    Gives files (λ fs. numbers_in fs own) inputs → IfOk result (λ r. matched threads inputs ≡ Ok r) → IfOk result (Gives files (λ fs. inputs_in fs name threads))
-gives_matched files name own threads inputs (Err s) is gives fits = tt
-gives_matched None name own threads inputs (Ok r) is gives fits = tt
-gives_matched (Some fs) name own threads inputs (Ok r) is gives fits =
-    subst (λ n. inputs_in fs n threads ≡ Ok r) (sym is) (subst (λ (numbers : Result InputsValue Status). (numbers >>= matched threads) ≡ Ok r) (sym gives) fits)
+pub gives_matched : (old new : StoreTold) (name : Option (List ℕ)) (own : List ℕ) (threads : ℕ) (inputs : InputsValue) (result : Result InputsValue Status) →
+    name ≡ Some own → Gives old new (λ fs. numbers_in fs own) inputs → IfOk result (λ r. matched threads inputs ≡ Ok r) →
+    IfOk result (Gives old new (λ fs. inputs_in fs name threads))
+gives_matched old new name own threads inputs (Err s) is gives fits = tt
+gives_matched old new name own threads inputs (Ok r) is gives fits = (of_all old.files gives.0, gives.1) where
+  of_all : (files : Option Files) → IfSome files (λ fs. numbers_in fs own ≡ Ok inputs) → IfSome files (λ fs. inputs_in fs name threads ≡ Ok r)
+  of_all None told = tt
+  of_all (Some fs) told =
+      subst (λ n. inputs_in fs n threads ≡ Ok r) (sym is)
+      (subst (λ (numbers : Result InputsValue Status). (numbers >>= matched threads) ≡ Ok r) (sym told) fits)

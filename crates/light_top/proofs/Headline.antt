@@ -47,9 +47,9 @@ told None image log limits crew inputs old new output meant done = tt
 told (Some fs) image log limits crew inputs old new output meant done = with_image fs image log limits crew inputs old new output done (image_in fs image) refl meant
 
 of_record : (image log : List ℕ) (limits : LimitsValue) (crew : Option CrewValue) (inputs : Option (List ℕ)) (old new : Outside) → Ends (command.Record image log limits crew inputs) old new status.Ok →
-    IfSome old.files (λ fs. HasRecorded fs image log limits inputs old new)
-of_record image log limits crew inputs old new (inl early) = absurd early.0
-of_record image log limits crew inputs old new (inr (inl late)) = told old.files image log limits crew inputs old new late.output late.meant late.delivered
+    IfSome old.store.files (λ fs. HasRecorded fs image log limits inputs old new)
+of_record image log limits crew inputs old new (inl early) = absurd early.0.1
+of_record image log limits crew inputs old new (inr (inl late)) = told old.store.files image log limits crew inputs old new late.output late.meant late.delivered
 of_record image log limits crew inputs old new (inr (inr undone)) = absurd undone.0
 
 pub recorded : (command : Command) (old new : Outside) (s : Status) → Ends command old new s → Records command old new s

@@ -1,5 +1,6 @@
 pub mod Numbers
 pub mod Ending
+pub mod Continuing
 pub mod Headline
 pub mod Sizes
 pub mod Prints

@@ -49,11 +49,11 @@ module _ (fit : HistoryRunsFit) (respect : HistoryEventsRespect) (files : Files)
   abbrev Ending : Outside → Outside → Status → Type 0
   Ending old new s = EndsAgain had.loaded.program had.limits had.inputs had.history log schedule budget old new s
 
-  module _ (old new : Outside) (told : old.files ≡ Some files) where
+  module _ (old new : Outside) (told : old.store.files ≡ Some files) where
     early : (s : Status) → EndsEarly (command.Replay image name schedule budget) old new s → Ending old new s
-    early status.StoreFault h = h.0
+    early status.StoreFault h = h.0.1
     early status.Memory h = tt
-    early s h = absurd (not_refused (command.Replay image name schedule budget) files wanted is_given old.files told s h.1)
+    early s h = absurd (not_refused (command.Replay image name schedule budget) files wanted is_given old.store.files told s h.0.0)
 
     delivered : (s : Status) (output : Output) → IsReplayed had.loaded.program log schedule output → Delivered output old new s → Ending old new s
     delivered status.Ok output is done = (
@@ -63,7 +63,7 @@ module _ (fit : HistoryRunsFit) (respect : HistoryEventsRespect) (files : Files)
           (subst (λ (text : List ℕ). new ≡ after old output.saved text)
           (is.transcript.again had.limits had.inputs (sha256 had.loaded.bytes) had.history had.whole refl) done),
     )
-    delivered status.StoreFault output is done = done.0
+    delivered status.StoreFault output is done = done.failed.counted
     delivered status.SinkFault output is done = done.0
     delivered status.Memory output is done = tt
     delivered s output is done = absurd done
@@ -79,10 +79,10 @@ module _ (fit : HistoryRunsFit) (respect : HistoryEventsRespect) (files : Files)
 
     ended : (s : Status) → Ends (command.Replay image name schedule budget) old new s → Ending old new s
     ended s (inl h) = early s h
-    ended s (inr (inl late)) = delivered s late.output (of_task (command.Replay image name schedule budget) files wanted is_given old.files told (λ (t : Task). Means t late.output) late.meant).1 late.delivered
-    ended s (inr (inr h)) = undone s h.0 (of_task (command.Replay image name schedule budget) files wanted is_given old.files told (λ (t : Task). Fails t s) h.1) h.2
+    ended s (inr (inl late)) = delivered s late.output (of_task (command.Replay image name schedule budget) files wanted is_given old.store.files told (λ (t : Task). Means t late.output) late.meant).1 late.delivered
+    ended s (inr (inr h)) = undone s h.0 (of_task (command.Replay image name schedule budget) files wanted is_given old.store.files told (λ (t : Task). Fails t s) h.1) h.2
 
 pub replayed : HistoryRunsFit → HistoryEventsRespect → (command : Command) (old new : Outside) (s : Status) → Ends command old new s → Replays command old new s
 replayed fit respect (command.Replay image name schedule budget) old new s ends =
-    each_file old.files _ (λ fs told had. ended fit respect fs image name schedule budget had old new told s ends)
+    each_file old.store.files _ (λ fs told had. ended fit respect fs image name schedule budget had old new told s ends)
 replayed fit respect _ old new s ends = tt

@@ -22,7 +22,7 @@ module _ (p : ProgramValue) (limits : LimitsValue) (inputs : InputsValue) (diges
   pub memory_count : length (world_after p limits inputs history).memory ≡ length p.words
   memory_count = words_count (record { program = p; limits = limits; inputs = inputs; taken = history })
 
-  pub log_words : length (log_of_history p limits inputs digest history).lasts ≡ length p.words
+  pub log_words : length (log_of_history p limits inputs digest history).last_tags ≡ length p.words
   log_words = length-map (world_after p limits inputs history).memory _ ∙ memory_count
 
   pub values_count : length (values_of (world_after p limits inputs history)) ≡ length p.words

@@ -1,6 +1,7 @@
 -- Arenas that are recorded and replayed.
 use Rattle.std.specs.Prelude.{◌≡◌, ℕ, ◌<◌, List, [], replicate}
 use Rattle.replay_model.specs.Logs.{Log}
+use Rattle.replay_model.specs.Bounds.{most_entries}
 use Rattle.machine.specs.Programs.{ProgramValue, LimitsValue}
 use Rattle.machine.specs.Inputs.{InputsValue}
 use Rattle.machine.specs.Runs.{world_after, values_of}
@@ -13,7 +14,7 @@ use Rattle.light_top.specs.declared.status.Status.TheVariants as status
 
 -- the limits under which arenas run
 abbrev pub arena_limits : LimitsValue
-arena_limits = record { steps = 1000000; instr = 10000000; entries = 16384 }
+arena_limits = record { steps = 1000000; instr = 10000000; entries = most_entries }
 
 -- their threads have no input numbers
 abbrev pub arena_inputs : InputsValue

@@ -1,8 +1,9 @@
 -- What the files say of a command: the task that is to be done, or what stands in the way first.
-use Rattle.std.specs.Prelude.{◌≡◌, ℕ, ◌+◌, nat_lt, ◌==◌, Bool, IsTrue, List, [], length, replicate, Option, None, Some, Result, Ok, Err, IfSome, if◌then◌else◌}
+use Rattle.std.specs.Prelude.{◌≡◌, ℕ, ◌+◌, nat_lt, ◌==◌, IsTrue, List, [], length, replicate, Option, None, Some, Result, Ok, Err, IfSome, if◌then◌else◌}
 use Rattle.std.specs.FinMap.{get}
 use Rattle.light_base.specs.Causes.{Rose}
 use Rattle.light_base.specs.FileMap.{Files}
+use Rattle.light_base.specs.Stores.{StoreTold}
 use Rattle.machine.specs.Programs.{ProgramValue}
 use Rattle.machine.specs.Inputs.{InputsValue}
 use Rattle.light_top.specs.Images.{ImageValue, as_image, as_text, as_inputs}
@@ -103,21 +104,26 @@ given (command.Replay image log schedule budget) files = do
   l ← log_in files log
   own ← of_program i l
   Ok (task.Replay i own schedule budget)
+given (command.Races log) files = do
+  l ← log_in files log
+  Ok (task.Races l)
 given (command.Arena number) files = Ok (task.Arena number)
 
 -- ---- what is answered of this
-
--- this is what the files give, where they are told
-abbrev pub Gives : {X : Type 0} → Option Files → (Files → Result X Status) → X → Type 0
-Gives files f x = IfSome files (λ fs. f fs ≡ Ok x)
 
 -- reading refuses with this status, or memory was refused
 abbrev pub NotRead : {X : Type 0} → Result X Status → Status → Type 0
 NotRead read status.Memory = Unit {0}
 NotRead read s = IsRefusal s × (read ≡ Err s)
 
--- why nothing is given, while a count of faults went from one number to another: a fault was counted, and at a sound store that tells its files the name isn't there; memory was refused; or the files say so
-abbrev pub NotGiven : {X : Type 0} → Option Files → Bool → ℕ → ℕ → (Files → Result X Status) → Status → Type 0
-NotGiven files sound before now f status.StoreFault = Rose before now × IfSome files (λ fs. IsTrue sound → f fs ≡ Err status.StoreFault)
-NotGiven files sound before now f status.Memory = now ≡ before
-NotGiven files sound before now f s = IsRefusal s × IfSome files (λ fs. f fs ≡ Err s) × (now ≡ before)
+-- what a store gives of its files, and leaves: what they say, where it tells them
+abbrev pub Gives : {X : Type 0} → StoreTold → StoreTold → (Files → Result X Status) → X → Type 0
+Gives old new f x = IfSome old.files (λ files. f files ≡ Ok x) × (new ≡ old)
+
+-- why it gives nothing, and what it leaves: a fault was counted, and at a sound store that tells its files the name isn't there;
+-- memory was refused; or the files say so
+abbrev pub NotGiven : {X : Type 0} → StoreTold → StoreTold → (Files → Result X Status) → Status → Type 0
+NotGiven old new f status.StoreFault = IfSome old.files (λ files. IsTrue old.sound → f files ≡ Err status.StoreFault) ×
+    Rose old.faults new.faults × (new ≡ record old { faults = new.faults })
+NotGiven old new f status.Memory = new ≡ old
+NotGiven old new f s = IfSome old.files (λ files. f files ≡ Err s) × IsRefusal s × (new ≡ old)

@@ -39,7 +39,7 @@ pub record HasRecorded (files : Files) (image log : List ℕ) (limits : LimitsVa
 
 -- what `record` has done where it ends well, whichever workers ran the threads
 abbrev pub Records : Command → Outside → Outside → Status → Type 0
-Records (command.Record image log limits crew inputs) old new status.Ok = IfSome old.files (λ files. HasRecorded files image log limits inputs old new)
+Records (command.Record image log limits crew inputs) old new status.Ok = IfSome old.store.files (λ files. HasRecorded files image log limits inputs old new)
 Records command old new s = Unit {0}
 
 -- The file `image` holds the image of a program, and the file `log` is read as the log of a whole history of it, under some
@@ -63,12 +63,12 @@ EndsAgain p limits inputs history log schedule budget old new status.Ok =
     (order : List Event) × Respects log order × (new ≡ after old (Some (order_file schedule order)) (transcript_of p limits inputs history))
 EndsAgain p limits inputs history log schedule budget old new status.Spent = (budget < dead log) × (new ≡ old)
 EndsAgain p limits inputs history log schedule budget old new status.Memory = Unit {0}
-EndsAgain p limits inputs history log schedule budget old new status.StoreFault = Rose old.store_faults new.store_faults
-EndsAgain p limits inputs history log schedule budget old new status.SinkFault = Rose old.sink_faults new.sink_faults
+EndsAgain p limits inputs history log schedule budget old new status.StoreFault = Rose old.store.faults new.store.faults
+EndsAgain p limits inputs history log schedule budget old new status.SinkFault = Rose old.sink.faults new.sink.faults
 EndsAgain p limits inputs history log schedule budget old new s = ⊥
 
 -- what `replay` does where it is handed a program and the log of a history of it
 abbrev pub Replays : Command → Outside → Outside → Status → Type 0
-Replays (command.Replay image log schedule budget) old new s = IfSome old.files (λ files. (had : HasHistory files image log) →
+Replays (command.Replay image log schedule budget) old new s = IfSome old.store.files (λ files. (had : HasHistory files image log) →
     EndsAgain had.loaded.program had.limits had.inputs had.history (log_had files image log had) schedule budget old new s)
 Replays command old new s = Unit {0}

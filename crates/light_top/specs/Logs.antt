@@ -34,7 +34,7 @@ as_order bytes = order_or_fault (schedule_read bytes)
 
 -- what a log says of its program, and what an image is
 abbrev pub logged_print : Log → Print
-logged_print log = record { digest = log.digest; words = length log.lasts; threads = length log.threads }
+logged_print log = record { digest = log.digest; words = length log.last_tags; threads = length log.threads }
 
 abbrev pub image_print : ImageValue → Print
 image_print image = record { digest = sha256 image.bytes; words = length image.program.words; threads = length image.program.threads }

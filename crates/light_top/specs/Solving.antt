@@ -5,7 +5,7 @@ use Rattle.light_base.specs.declared.tag.Event.{Event}
 use Rattle.replay_model.specs.Steps.{Step}
 use Rattle.replay_model.specs.Logs.{Log}
 use Rattle.replay_model.specs.Orders.{Respects}
-use Rattle.replay_model.specs.Fitting.{finals}
+use Rattle.replay_model.specs.Fitting.{last_values}
 use Rattle.machine.specs.Programs.{ProgramValue, LimitsValue}
 use Rattle.machine.specs.Inputs.{InputsValue}
 use Rattle.history.specs.Histories.{IsHistory}
@@ -52,7 +52,7 @@ IsOfHistory p log text = (limits : LimitsValue) (inputs : InputsValue) (digest h
 pub record IsTranscript (p : ProgramValue) (log : Log) (text : List ℕ) : Type 0 where
   pub runs : List (List Step)
   pub fits : FitsProgram p log runs
-  pub told : text ≡ transcript (reports_of_runs p log runs) (finals p.words log runs)
+  pub told : text ≡ transcript (reports_of_runs p log runs) (last_values p.words log runs)
   pub again : IsOfHistory p log text
 
 -- such a transcript is printed, and the text of an order that respects the log is saved

@@ -1,19 +1,21 @@
 -- What each task means: what is printed and saved where it is done.
 use Rattle.std.specs.Prelude.{◌≡◌, ℕ, ◌<◌, ◌^◌, List, [], ◌∷◌, ◌++◌, codes, length}
 use Rattle.sha2.specs.Sha256.{sha256}
-use Rattle.machine.specs.Programs.{LimitsValue}
+use Rattle.machine.specs.Programs.{ProgramValue, LimitsValue}
 use Rattle.machine.specs.Inputs.{InputsValue}
 use Rattle.machine.specs.Images.{IsImage}
 use Rattle.machine.specs.Runs.{rounds_of}
 use Rattle.history.specs.Histories.{IsHistory}
 use Rattle.history.specs.HistoryLogs.{log_of_history}
+use Rattle.recorder.specs.Records.{RecordedValue, recorded_of}
 use Rattle.replay_model.specs.Orders.{Respects}
 use Rattle.arena_samples.specs.Arenas.{arena_of}
 use Rattle.arena_samples.specs.Summaries.{summary_of}
 use Rattle.log_file.specs.Spelling.{spelling}
 use Rattle.log_text.specs.ShowTexts.{show}
-use Rattle.transcript.specs.Transcripts.{transcript_of}
+use Rattle.transcript.specs.Transcripts.{transcript, transcript_of}
 use Rattle.assembler.specs.Canonical.{canonical}
+use Rattle.races.specs.Texts.{races_text}
 use Rattle.light_top.specs.Images.{ImageValue}
 use Rattle.light_top.specs.Outputs.{Output, printed, printed_and_saved, saved}
 use Rattle.light_top.specs.declared.task.Task.{Task}
@@ -23,7 +25,8 @@ use Rattle.light_top.specs.Arenas.{IsArenaEnd, Endless}
 use Rattle.light_top.specs.Solving.{Unsolved, Unreplayed, IsDisrespectful, IsSolved, IsReplayed}
 use Rattle.light_top.specs.declared.status.Status.{Status}
 
--- the inputs have a list for each thread of the program that they are for; an order is that of a file; a log is that of the image's program
+-- the inputs have a list for each thread of the program that they are for; an order is that of a file; a log is that of the
+-- image's program
 abbrev pub IsMatched : Task → Type 0
 IsMatched (task.Play image limits inputs) = length inputs ≡ length image.program.threads
 IsMatched (task.Record image log limits crew inputs) = length inputs ≡ length image.program.threads
@@ -31,19 +34,47 @@ IsMatched (task.Check log order) = length order < 2 ^ 32
 IsMatched (task.Replay image log schedule budget) = logged_print log ≡ image_print image
 IsMatched _ = Unit {0}
 
--- the output is the transcript of this history, and its log under this name
+-- the transcript of the program's threads taking turns in rounds
+abbrev pub rounds_text : ProgramValue → LimitsValue → InputsValue → List ℕ
+rounds_text p limits inputs = transcript_of p limits inputs (rounds_of p limits inputs)
+
+-- that an order respects a log, as a line
+abbrev pub respects_line : List ℕ
+respects_line = codes "respects" ++ 10 ∷ []
+
+-- the most open pairs that are printed
+abbrev pub most_pairs : ℕ
+most_pairs = 10000
+
+-- what was recorded of a program, as an output: its transcript, and under this name its log with the image's digest
+abbrev pub recording : RecordedValue → List ℕ → List ℕ → Output
+recording recorded image name =
+    printed_and_saved (transcript recorded.reports recorded.last_values) name (spelling (record recorded.log { digest = sha256 image }))
+
+-- it was recorded of one whole history of the program with these inputs
+abbrev pub IsOfHistory : ProgramValue → LimitsValue → InputsValue → RecordedValue → Type 0
+IsOfHistory p limits inputs recorded =
+    (history : List ℕ) × IsHistory p limits inputs history × (recorded ≡ recorded_of p limits inputs history)
+
+-- the output is the transcript of this history, and its log, with the image's digest, under this name
 abbrev pub IsRecorded : ImageValue → LimitsValue → InputsValue → List ℕ → List ℕ → Output → Type 0
 IsRecorded image limits inputs log history output =
-    output ≡ printed_and_saved (transcript_of image.program limits inputs history) log (spelling (log_of_history image.program limits inputs (sha256 image.bytes) history))
+    output ≡ printed_and_saved (transcript_of image.program limits inputs history) log
+    (spelling (log_of_history image.program limits inputs (sha256 image.bytes) history))
+
+-- the output is the transcript and the log of one and the same whole history of the program with these inputs
+abbrev pub IsRecording : ImageValue → LimitsValue → InputsValue → List ℕ → Output → Type 0
+IsRecording image limits inputs log output =
+    (history : List ℕ) × IsHistory image.program limits inputs history × IsRecorded image limits inputs log history output
 
 abbrev pub Means : Task → Output → Type 0
 -- the transcript of the program's threads taking turns in rounds, with these inputs
 Means (task.Play image limits inputs) output =
-    IsImage image.bytes image.program × (output ≡ printed (transcript_of image.program limits inputs (rounds_of image.program limits inputs)))
+    IsImage image.bytes image.program × (output ≡ printed (rounds_text image.program limits inputs))
 -- the transcript of one whole history of the program with these inputs, and the log of this very history, with the image's digest;
 -- which workers run the threads changes nothing of that
-Means (task.Record image log limits crew inputs) output = IsImage image.bytes image.program ×
-    ((history : List ℕ) × IsHistory image.program limits inputs history × IsRecorded image limits inputs log history output)
+Means (task.Record image log limits crew inputs) output =
+    IsImage image.bytes image.program × IsRecording image limits inputs log output
 -- the image of the program
 Means (task.Assemble program image) output = (bytes : List ℕ) × IsImage bytes program × (output ≡ saved image bytes)
 -- the canonical text of the program
@@ -53,11 +84,13 @@ Means (task.Show log) output = output ≡ printed (show log)
 -- the log as it is written today
 Means (task.Upgrade log name) output = output ≡ saved name (spelling log)
 -- that the order respects the log
-Means (task.Check log order) output = Respects log order × (output ≡ printed (codes "respects" ++ 10 ∷ []))
+Means (task.Check log order) output = Respects log order × (output ≡ printed respects_line)
 -- the text of an order that respects the log, and its length
 Means (task.Solve log schedule budget) output = IsSolved log schedule output
 -- such a text, and the transcript of runs of the program that fit the log
 Means (task.Replay image log schedule budget) output = IsImage image.bytes image.program × IsReplayed image.program log schedule output
+-- how many rival pairs the log has of each kind, and the first of those that are open
+Means (task.Races log) output = output ≡ printed (races_text most_pairs log)
 -- the summary of the arena, by the values at the end of one whole history of it
 Means (task.Arena number) output = (values : List ℕ) × IsArenaEnd (arena_of number) values × (output ≡ printed (summary_of number values))
 

@@ -1,10 +1,11 @@
 -- The words of the command line, and the command that they are.
-use Rattle.std.specs.Prelude.{ℕ, Bool, false, ◌&&◌, ◌==◌, not, List, [], ◌∷◌, String, map, codes, string_bytes, Option, None, Some, if◌then◌else◌, nat_le}
+use Rattle.std.specs.Prelude.{ℕ, ◌-◌, ◌^◌, Bool, false, ◌&&◌, ◌==◌, not, List, [], ◌∷◌, String, map, codes, string_bytes, Option, None, Some, if◌then◌else◌, nat_le}
 use Rattle.std.specs.Fmt.{decimal}
 use Rattle.std.specs.Str.{bytes_eq}
 use Rattle.std.specs.Str.Parse.{digits_value}
-use Rattle.machine.specs.Programs.{LimitsValue}
-use Rattle.light_top.specs.Crews.{CrewValue, crew_or_none}
+use Rattle.replay_model.specs.Bounds.{most_entries}
+use Rattle.machine.specs.Programs.{LimitsValue, most_steps, most_instr}
+use Rattle.light_top.specs.Crews.{CrewValue, most_workers, crew_or_none}
 use Rattle.light_top.specs.declared.words.Command.{Command}
 use Rattle.light_top.specs.declared.words.Command.TheVariants as command
 
@@ -21,11 +22,22 @@ texts words = map string_bytes words
 abbrev pub number_of : ℕ → List ℕ → Option ℕ
 number_of most word = let n = digits_value 10 word in if bytes_eq word (decimal n) && nat_le n most then Some n else None
 
+-- any number of 32 bits
+abbrev pub any_number_of : List ℕ → Option ℕ
+any_number_of word = number_of (2 ^ 32 - 1) word
+
+-- the characters of a plus and of a zero
+abbrev pub plus : ℕ
+plus = 43
+
+abbrev pub zero_digit : ℕ
+zero_digit = 48
+
 -- whether a text may be that of a number: it isn't empty, has no plus in front, and a zero in front stands alone
 abbrev pub is_plain : List ℕ → Bool
 is_plain [] = false
-is_plain (c ∷ []) = not (c == 43)
-is_plain (c ∷ d ∷ cs) = not (c == 43) && not (c == 48)
+is_plain (c ∷ []) = not (c == plus)
+is_plain (c ∷ d ∷ cs) = not (c == plus) && not (c == zero_digit)
 
 -- a name is any text that isn't empty
 abbrev pub name_of : List ℕ → Option (List ℕ)
@@ -35,9 +47,9 @@ name_of (c ∷ cs) = Some (c ∷ cs)
 -- STEPS INSTR ENTRIES
 abbrev pub limits_of : List ℕ → List ℕ → List ℕ → Option LimitsValue
 limits_of steps instr entries = do
-  s ← number_of 268435455 steps
-  i ← number_of 1073741824 instr
-  e ← number_of 16384 entries
+  s ← number_of most_steps steps
+  i ← number_of most_instr instr
+  e ← number_of most_entries entries
   Some (record { steps = s; instr = i; entries = e })
 
 -- nothing, or INPUTS
@@ -51,8 +63,8 @@ inputs_of _ = None
 -- WORKERS SLICE
 abbrev pub crew_of : List ℕ → List ℕ → Option CrewValue
 crew_of workers slice = do
-  w ← number_of 15 workers
-  s ← number_of 268435455 slice
+  w ← number_of most_workers workers
+  s ← number_of most_steps slice
   crew_or_none w s
 
 -- nothing, or INPUTS, or WORKERS SLICE, or these and INPUTS
@@ -128,7 +140,7 @@ abbrev pub solve_of : List (List ℕ) → Option Command
 solve_of (log ∷ schedule ∷ budget ∷ []) = do
   log ← name_of log
   schedule ← name_of schedule
-  budget ← number_of 4294967295 budget
+  budget ← any_number_of budget
   Some (command.Solve log schedule budget)
 solve_of _ = None
 
@@ -138,14 +150,21 @@ replay_of (image ∷ log ∷ schedule ∷ budget ∷ []) = do
   image ← name_of image
   log ← name_of log
   schedule ← name_of schedule
-  budget ← number_of 4294967295 budget
+  budget ← any_number_of budget
   Some (command.Replay image log schedule budget)
 replay_of _ = None
+
+-- LOG
+abbrev pub races_of : List (List ℕ) → Option Command
+races_of (log ∷ []) = do
+  log ← name_of log
+  Some (command.Races log)
+races_of _ = None
 
 -- NUMBER
 abbrev pub arena_of_words : List (List ℕ) → Option Command
 arena_of_words (number ∷ []) = do
-  number ← number_of 4294967295 number
+  number ← any_number_of number
   Some (command.Arena number)
 arena_of_words _ = None
 
@@ -162,5 +181,6 @@ command_of (verb ∷ rest) =
     else if bytes_eq verb (codes "check") then check_of rest
     else if bytes_eq verb (codes "solve") then solve_of rest
     else if bytes_eq verb (codes "replay") then replay_of rest
+    else if bytes_eq verb (codes "races") then races_of rest
     else if bytes_eq verb (codes "arena") then arena_of_words rest
     else None

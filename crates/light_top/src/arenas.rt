@@ -18,11 +18,21 @@ use replayer::{Replayed, replay_order};
 use std::alloc::Global;
 use std::thread::Threads;
 
+// The memory steps, instructions and log entries that a thread of an arena may have.
+const STEPS: u32 = 1_000_000;
+
+const INSTR: u32 = 10_000_000;
+
+const ENTRIES: u32 = 16_384;
+
+// The threads of an arena.
+const THREADS: u8 = 8;
+
 // The limits under which arenas run.
 fn limits() -> Limits
     ensures { result ≡ arena_limits }
 {
-    match Limits::new(1_000_000, 10_000_000, 16_384) {
+    match Limits::new(STEPS, INSTR, ENTRIES) {
         Some(limits) => limits,
         None => unreachable!(),
     }
@@ -38,7 +48,7 @@ fn record_arena<R: Threads + Sync, G: Gate>(
     requires { length program.now.threads ≡ 8 }
     ensures { IfOk result (IsArenaLog program.now) }
 {
-    let inputs = Inputs::none(alloc, 8)?;
+    let inputs = Inputs::none(alloc, THREADS)?;
     let recorded = record(rt, alloc, program, &limits(), &inputs, gate)?;
     Ok(recorded.into_parts().0)
 }

@@ -1,6 +1,6 @@
 // Which workers run the threads of a program.
 ghost use Rattle.std.specs.Prelude.{◌≡◌, ◌<◌, ◌≤◌, ◌^◌};
-ghost use Rattle.light_top.specs.Crews.{IsCrew, crew_or_none};
+ghost use Rattle.light_top.specs.Crews.{IsCrew, most_workers, crew_or_none};
 
 use std::marker::Model;
 
@@ -24,7 +24,7 @@ impl Model for Crew {
 impl Crew {
     /// None exactly where one of the two is 0.
     pub fn new(workers: u8, slice: u32) -> Option<Crew>
-        requires few { workers ≤ 15 }
+        requires few { workers ≤ most_workers }
         ensures { result ≡ crew_or_none workers slice }
     {
         if workers > 0 && slice > 0 {

@@ -1,7 +1,6 @@
 // What a command gives is saved and printed.
-ghost use Rattle.std.specs.Prelude.{◌≡◌};
 ghost use Rattle.light_top.specs.Statuses.{status_of};
-ghost use Rattle.light_top.specs.Outside.{outside};
+ghost use Rattle.light_top.specs.Outside.{◌and◌};
 ghost use Rattle.light_top.specs.Delivery.{Delivered};
 
 use crate::Status;
@@ -14,8 +13,7 @@ pub fn deliver<S: Store, K: Sink>(
     out: &mut K,
     output: &Output<'_>,
 ) -> Result<(), Status>
-    ensures { Delivered output.now (outside S.files S.sound S.faults K.taken K.faults store.old out.old)
-        (outside S.files S.sound S.faults K.taken K.faults store.new out.new) (status_of result) }
+    ensures { Delivered output.now (S.told store.old and K.told out.old) (S.told store.new and K.told out.new) (status_of result) }
 {
     if let Some(saved) = &output.saved {
         match store.save(saved.name.as_str(), saved.bytes.as_slice()) {

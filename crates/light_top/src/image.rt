@@ -65,7 +65,7 @@ impl Image {
     }
 
     /// What tells the program from others.
-    pub fn print(&self) -> Print
+    pub fn fingerprint(&self) -> Print
         ensures { result ≡ image_print self.now }
     {
         Print {

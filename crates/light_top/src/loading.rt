@@ -1,5 +1,5 @@
 // What the files of a command are read as, before anything is done.
-ghost use Rattle.std.specs.Prelude.{◌≡◌, ◌<◌, ◌^◌, ◌≤◌, length, Ok, OnOk, IfOk, IfErr};
+ghost use Rattle.std.specs.Prelude.{◌≡◌, ◌<◌, ◌^◌, ◌≤◌, length, Ok, IfOk, IfErr};
 ghost use Rattle.light_top.specs.Statuses.{most_bytes};
 ghost use Rattle.light_top.specs.Images.{as_text, as_inputs};
 ghost use Rattle.light_top.specs.Logs.{as_log, as_old_log, as_order, logged_print, image_print};
@@ -23,13 +23,9 @@ const MOST_BYTES: u64 = 8_388_608;
 
 // The whole bytes of a file. The files stay as they are.
 fn load<S: Store>(alloc: Global, store: &mut S, name: &Name<'_>) -> Result<Bytes, Status>
-    ensures ok { IfOk result (Gives (S.files store.old) (λ files. file_in files name.now)) }
-    ensures err { IfErr result (NotGiven (S.files store.old) (S.sound store.old) (S.faults store.old) (S.faults store.new) (λ files. file_in files name.now)) }
+    ensures ok { IfOk result (Gives (S.told store.old) (S.told store.new) (λ files. file_in files name.now)) }
+    ensures err { IfErr result (NotGiven (S.told store.old) (S.told store.new) (λ files. file_in files name.now)) }
     ensures short { IfOk result (λ bytes. length bytes ≤ most_bytes) }
-
-    ensures files { S.files store.new ≡ S.files store.old }
-    ensures sound { S.sound store.new ≡ S.sound store.old }
-    ensures quiet { OnOk result (S.faults store.new ≡ S.faults store.old) }
 {
     match store.load(alloc, name.as_str(), MOST_BYTES) {
         Ok(bytes) => Ok(Bytes::of(bytes)),
@@ -41,12 +37,8 @@ fn load<S: Store>(alloc: Global, store: &mut S, name: &Name<'_>) -> Result<Bytes
 
 /// The image in a file.
 pub fn load_image<S: Store>(alloc: Global, store: &mut S, name: &Name<'_>) -> Result<Image, Status>
-    ensures ok { IfOk result (Gives (S.files store.old) (λ files. image_in files name.now)) }
-    ensures err { IfErr result (NotGiven (S.files store.old) (S.sound store.old) (S.faults store.old) (S.faults store.new) (λ files. image_in files name.now)) }
-
-    ensures files { S.files store.new ≡ S.files store.old }
-    ensures sound { S.sound store.new ≡ S.sound store.old }
-    ensures quiet { OnOk result (S.faults store.new ≡ S.faults store.old) }
+    ensures ok { IfOk result (Gives (S.told store.old) (S.told store.new) (λ files. image_in files name.now)) }
+    ensures err { IfErr result (NotGiven (S.told store.old) (S.told store.new) (λ files. image_in files name.now)) }
 {
     let bytes = load(alloc, store, name)?;
     Image::read(alloc, bytes)
@@ -72,12 +64,8 @@ fn assemble_text(alloc: Global, text: &[u8]) -> Result<Program, Status>
 
 /// The program of the text in a file.
 pub fn load_text<S: Store>(alloc: Global, store: &mut S, name: &Name<'_>) -> Result<Program, Status>
-    ensures ok { IfOk result (Gives (S.files store.old) (λ files. text_in files name.now)) }
-    ensures err { IfErr result (NotGiven (S.files store.old) (S.sound store.old) (S.faults store.old) (S.faults store.new) (λ files. text_in files name.now)) }
-
-    ensures files { S.files store.new ≡ S.files store.old }
-    ensures sound { S.sound store.new ≡ S.sound store.old }
-    ensures quiet { OnOk result (S.faults store.new ≡ S.faults store.old) }
+    ensures ok { IfOk result (Gives (S.told store.old) (S.told store.new) (λ files. text_in files name.now)) }
+    ensures err { IfErr result (NotGiven (S.told store.old) (S.told store.new) (λ files. text_in files name.now)) }
 {
     let bytes = load(alloc, store, name)?;
     assemble_text(alloc, bytes.as_slice())
@@ -101,12 +89,8 @@ fn read_numbers(alloc: Global, bytes: &[u8]) -> Result<Inputs, Status>
 
 // The inputs in a file.
 fn load_numbers<S: Store>(alloc: Global, store: &mut S, name: &Name<'_>) -> Result<Inputs, Status>
-    ensures ok { IfOk result (Gives (S.files store.old) (λ files. numbers_in files name.now)) }
-    ensures err { IfErr result (NotGiven (S.files store.old) (S.sound store.old) (S.faults store.old) (S.faults store.new) (λ files. numbers_in files name.now)) }
-
-    ensures files { S.files store.new ≡ S.files store.old }
-    ensures sound { S.sound store.new ≡ S.sound store.old }
-    ensures quiet { OnOk result (S.faults store.new ≡ S.faults store.old) }
+    ensures ok { IfOk result (Gives (S.told store.old) (S.told store.new) (λ files. numbers_in files name.now)) }
+    ensures err { IfErr result (NotGiven (S.told store.old) (S.told store.new) (λ files. numbers_in files name.now)) }
 {
     let bytes = load(alloc, store, name)?;
     read_numbers(alloc, bytes.as_slice())
@@ -139,13 +123,9 @@ pub fn load_inputs<S: Store>(
 ) -> Result<Inputs, Status>
     requires some { 1 ≤ threads }
     requires most { threads ≤ 15 }
-    ensures ok { IfOk result (Gives (S.files store.old) (λ files. inputs_in files name.now threads)) }
-    ensures err { IfErr result (NotGiven (S.files store.old) (S.sound store.old) (S.faults store.old) (S.faults store.new) (λ files. inputs_in files name.now threads)) }
+    ensures ok { IfOk result (Gives (S.told store.old) (S.told store.new) (λ files. inputs_in files name.now threads)) }
+    ensures err { IfErr result (NotGiven (S.told store.old) (S.told store.new) (λ files. inputs_in files name.now threads)) }
     ensures same { IfOk result (λ inputs. length inputs ≡ threads) }
-
-    ensures files { S.files store.new ≡ S.files store.old }
-    ensures sound { S.sound store.new ≡ S.sound store.old }
-    ensures quiet { OnOk result (S.faults store.new ≡ S.faults store.old) }
 {
     match name {
         Some(name) => {
@@ -197,12 +177,8 @@ fn read_of_old(alloc: Global, bytes: &[u8]) -> Result<RunLog, Status>
 
 /// The log in a file.
 pub fn load_log<S: Store>(alloc: Global, store: &mut S, name: &Name<'_>) -> Result<RunLog, Status>
-    ensures ok { IfOk result (Gives (S.files store.old) (λ files. log_in files name.now)) }
-    ensures err { IfErr result (NotGiven (S.files store.old) (S.sound store.old) (S.faults store.old) (S.faults store.new) (λ files. log_in files name.now)) }
-
-    ensures files { S.files store.new ≡ S.files store.old }
-    ensures sound { S.sound store.new ≡ S.sound store.old }
-    ensures quiet { OnOk result (S.faults store.new ≡ S.faults store.old) }
+    ensures ok { IfOk result (Gives (S.told store.old) (S.told store.new) (λ files. log_in files name.now)) }
+    ensures err { IfErr result (NotGiven (S.told store.old) (S.told store.new) (λ files. log_in files name.now)) }
 {
     let bytes = load(alloc, store, name)?;
     read_today(alloc, bytes.as_slice())
@@ -210,12 +186,8 @@ pub fn load_log<S: Store>(alloc: Global, store: &mut S, name: &Name<'_>) -> Resu
 
 /// The log of version 1 in a file.
 pub fn load_old<S: Store>(alloc: Global, store: &mut S, name: &Name<'_>) -> Result<RunLog, Status>
-    ensures ok { IfOk result (Gives (S.files store.old) (λ files. old_log_in files name.now)) }
-    ensures err { IfErr result (NotGiven (S.files store.old) (S.sound store.old) (S.faults store.old) (S.faults store.new) (λ files. old_log_in files name.now)) }
-
-    ensures files { S.files store.new ≡ S.files store.old }
-    ensures sound { S.sound store.new ≡ S.sound store.old }
-    ensures quiet { OnOk result (S.faults store.new ≡ S.faults store.old) }
+    ensures ok { IfOk result (Gives (S.told store.old) (S.told store.new) (λ files. old_log_in files name.now)) }
+    ensures err { IfErr result (NotGiven (S.told store.old) (S.told store.new) (λ files. old_log_in files name.now)) }
 {
     let bytes = load(alloc, store, name)?;
     read_of_old(alloc, bytes.as_slice())
@@ -242,13 +214,9 @@ fn read_order(alloc: Global, bytes: &[u8]) -> Result<Order, Status>
 
 /// The order in a file.
 pub fn load_order<S: Store>(alloc: Global, store: &mut S, name: &Name<'_>) -> Result<Order, Status>
-    ensures ok { IfOk result (Gives (S.files store.old) (λ files. order_in files name.now)) }
+    ensures ok { IfOk result (Gives (S.told store.old) (S.told store.new) (λ files. order_in files name.now)) }
+    ensures err { IfErr result (NotGiven (S.told store.old) (S.told store.new) (λ files. order_in files name.now)) }
     ensures few { IfOk result (λ order. length order < 2 ^ 32) }
-    ensures err { IfErr result (NotGiven (S.files store.old) (S.sound store.old) (S.faults store.old) (S.faults store.new) (λ files. order_in files name.now)) }
-
-    ensures files { S.files store.new ≡ S.files store.old }
-    ensures sound { S.sound store.new ≡ S.sound store.old }
-    ensures quiet { OnOk result (S.faults store.new ≡ S.faults store.old) }
 {
     let bytes = load(alloc, store, name)?;
     read_order(alloc, bytes.as_slice())
@@ -261,7 +229,7 @@ pub fn of_program(image: &Image, log: RunLog) -> Result<RunLog, Status>
     ensures err { IfErr result (NotRead (of_program image.now log)) }
 {
     let logged = logged_print(&log);
-    let found = image.print();
+    let found = image.fingerprint();
     if logged.is(&found) {
         Ok(log)
     } else {

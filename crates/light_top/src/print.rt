@@ -5,7 +5,8 @@ ghost use Rattle.light_top.specs.Prints.{same_print};
 
 use dep_log::RunLog;
 
-/// What a log says of its program, or what an image is: the SHA-256 of the image, and the numbers of words and of threads.
+/// What a log says of its program, or what an image is: the SHA-256 of the image, and the numbers of words and of
+/// threads.
 #[derive(Clone, Copy, Debug, PartialEq, Eq)]
 pub struct Print {
     pub digest: [u8; 32],

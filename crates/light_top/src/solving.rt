@@ -1,7 +1,6 @@
 // Orders of a log's events: found, checked, written down, and played by.
-ghost use Rattle.std.specs.Prelude.{◌≡◌, ◌<◌, ◌^◌, ◌++◌, length, IfOk, IfErr, OnOk};
+ghost use Rattle.std.specs.Prelude.{◌≡◌, length, IfOk, IfErr};
 ghost use Rattle.replay_model.specs.Orders.{Respects};
-ghost use Rattle.log_file.specs.Schedules.{schedule_text};
 ghost use Rattle.order_solver.specs.Solving.{IsFound};
 ghost use Rattle.light_top.specs.Solving.{Unsolved, events_line, order_file, IsTranscript, Differing};
 ghost use Rattle.light_top.specs.Statuses.{FailsBy};
@@ -36,7 +35,6 @@ pub fn find_order(alloc: Global, log: &RunLog, budget: u32) -> Result<Order, Sta
 
 /// How many events an order has, as a line.
 pub fn count_text(alloc: Global, order: &Order) -> Result<Bytes, Memory>
-    requires { length order.now < 2 ^ 28 }
     ensures { IfOk result (λ text. text ≡ events_line (length order.now)) }
 {
     let mut text = Vec::new(alloc);
@@ -73,7 +71,7 @@ pub fn replay_text(
     order: &[Event],
 ) -> Result<Bytes, Status>
     requires threads { length program.now.threads ≡ length log.now.threads }
-    requires words { length program.now.words ≡ length log.now.lasts }
+    requires words { length program.now.words ≡ length log.now.last_tags }
     requires order { Respects log.now order.now }
     ensures ok { IfOk result (IsTranscript program.now log.now) }
     ensures err { IfErr result (FailsBy (Differing program.now log.now)) }

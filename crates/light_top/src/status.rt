@@ -33,8 +33,8 @@ pub enum Status {
     NoSchedule,
     /// The search for an order has met more dead ends than the budget.
     Spent,
-    /// No runs of the program have the log, and this is the first difference that a replay by an order that respects the log
-    /// found.
+    /// No runs of the program have the log, and this is the first difference that a replay by an order that respects
+    /// the log found.
     Differs(Difference),
     /// The bytes are no schedule, and this is the first fault.
     SchedRefused(SchedFault),

@@ -1,5 +1,5 @@
 // The task of a command, once all that it names is loaded and read.
-ghost use Rattle.std.specs.Prelude.{◌≡◌, OnOk, IfOk, IfErr};
+ghost use Rattle.std.specs.Prelude.{IfOk, IfErr};
 ghost use Rattle.light_top.specs.Tasks.{IsMatched};
 ghost use Rattle.light_top.specs.Given.{given, Gives, NotGiven};
 ghost use Rattle.light_top.specs.declared.words.Command.TheVariants as command;
@@ -23,13 +23,9 @@ fn take_run<'a, S: Store>(
     limits: Limits,
     inputs: Option<Name<'a>>,
 ) -> Result<Task<'a>, Status>
-    ensures ok { IfOk result (Gives (S.files store.old) (given (command.Run image.entry limits inputs.entry))) }
+    ensures ok { IfOk result (Gives (S.told store.old) (S.told store.new) (given (command.Run image.entry limits inputs.entry))) }
+    ensures err { IfErr result (NotGiven (S.told store.old) (S.told store.new) (given (command.Run image.entry limits inputs.entry))) }
     ensures matched { IfOk result IsMatched }
-    ensures err { IfErr result (NotGiven (S.files store.old) (S.sound store.old) (S.faults store.old) (S.faults store.new) (given (command.Run image.entry limits inputs.entry))) }
-
-    ensures files { S.files store.new ≡ S.files store.old }
-    ensures sound { S.sound store.new ≡ S.sound store.old }
-    ensures quiet { OnOk result (S.faults store.new ≡ S.faults store.old) }
 {
     let image = load_image(alloc, store, &image)?;
     let threads = image.program().threads_count();
@@ -51,13 +47,9 @@ fn take_record<'a, S: Store>(
     crew: Option<Crew>,
     inputs: Option<Name<'a>>,
 ) -> Result<Task<'a>, Status>
-    ensures ok { IfOk result (Gives (S.files store.old) (given (command.Record image.entry log.entry limits crew inputs.entry))) }
+    ensures ok { IfOk result (Gives (S.told store.old) (S.told store.new) (given (command.Record image.entry log.entry limits crew inputs.entry))) }
+    ensures err { IfErr result (NotGiven (S.told store.old) (S.told store.new) (given (command.Record image.entry log.entry limits crew inputs.entry))) }
     ensures matched { IfOk result IsMatched }
-    ensures err { IfErr result (NotGiven (S.files store.old) (S.sound store.old) (S.faults store.old) (S.faults store.new) (given (command.Record image.entry log.entry limits crew inputs.entry))) }
-
-    ensures files { S.files store.new ≡ S.files store.old }
-    ensures sound { S.sound store.new ≡ S.sound store.old }
-    ensures quiet { OnOk result (S.faults store.new ≡ S.faults store.old) }
 {
     let image = load_image(alloc, store, &image)?;
     let threads = image.program().threads_count();
@@ -78,13 +70,9 @@ fn take_asm<'a, S: Store>(
     text: Name<'a>,
     image: Name<'a>,
 ) -> Result<Task<'a>, Status>
-    ensures ok { IfOk result (Gives (S.files store.old) (given (command.Asm text.entry image.entry))) }
+    ensures ok { IfOk result (Gives (S.told store.old) (S.told store.new) (given (command.Asm text.entry image.entry))) }
+    ensures err { IfErr result (NotGiven (S.told store.old) (S.told store.new) (given (command.Asm text.entry image.entry))) }
     ensures matched { IfOk result IsMatched }
-    ensures err { IfErr result (NotGiven (S.files store.old) (S.sound store.old) (S.faults store.old) (S.faults store.new) (given (command.Asm text.entry image.entry))) }
-
-    ensures files { S.files store.new ≡ S.files store.old }
-    ensures sound { S.sound store.new ≡ S.sound store.old }
-    ensures quiet { OnOk result (S.faults store.new ≡ S.faults store.old) }
 {
     let program = load_text(alloc, store, &text)?;
     Ok(Task::Assemble { program, image })
@@ -96,13 +84,9 @@ fn take_list<'a, S: Store>(
     store: &mut S,
     image: Name<'a>,
 ) -> Result<Task<'a>, Status>
-    ensures ok { IfOk result (Gives (S.files store.old) (given (command.List image.entry))) }
+    ensures ok { IfOk result (Gives (S.told store.old) (S.told store.new) (given (command.List image.entry))) }
+    ensures err { IfErr result (NotGiven (S.told store.old) (S.told store.new) (given (command.List image.entry))) }
     ensures matched { IfOk result IsMatched }
-    ensures err { IfErr result (NotGiven (S.files store.old) (S.sound store.old) (S.faults store.old) (S.faults store.new) (given (command.List image.entry))) }
-
-    ensures files { S.files store.new ≡ S.files store.old }
-    ensures sound { S.sound store.new ≡ S.sound store.old }
-    ensures quiet { OnOk result (S.faults store.new ≡ S.faults store.old) }
 {
     let image = load_image(alloc, store, &image)?;
     Ok(Task::List { image })
@@ -110,16 +94,22 @@ fn take_list<'a, S: Store>(
 
 // To show a log.
 fn take_show<'a, S: Store>(alloc: Global, store: &mut S, log: Name<'a>) -> Result<Task<'a>, Status>
-    ensures ok { IfOk result (Gives (S.files store.old) (given (command.Show log.entry))) }
+    ensures ok { IfOk result (Gives (S.told store.old) (S.told store.new) (given (command.Show log.entry))) }
+    ensures err { IfErr result (NotGiven (S.told store.old) (S.told store.new) (given (command.Show log.entry))) }
     ensures matched { IfOk result IsMatched }
-    ensures err { IfErr result (NotGiven (S.files store.old) (S.sound store.old) (S.faults store.old) (S.faults store.new) (given (command.Show log.entry))) }
-
-    ensures files { S.files store.new ≡ S.files store.old }
-    ensures sound { S.sound store.new ≡ S.sound store.old }
-    ensures quiet { OnOk result (S.faults store.new ≡ S.faults store.old) }
 {
     let log = load_log(alloc, store, &log)?;
     Ok(Task::Show { log })
+}
+
+// To print which pairs of writes a log leaves open.
+fn take_races<'a, S: Store>(alloc: Global, store: &mut S, log: Name<'a>) -> Result<Task<'a>, Status>
+    ensures ok { IfOk result (Gives (S.told store.old) (S.told store.new) (given (command.Races log.entry))) }
+    ensures err { IfErr result (NotGiven (S.told store.old) (S.told store.new) (given (command.Races log.entry))) }
+    ensures matched { IfOk result IsMatched }
+{
+    let log = load_log(alloc, store, &log)?;
+    Ok(Task::Races { log })
 }
 
 // To write a log of version 1 anew.
@@ -129,13 +119,9 @@ fn take_upgrade<'a, S: Store>(
     old: Name<'a>,
     log: Name<'a>,
 ) -> Result<Task<'a>, Status>
-    ensures ok { IfOk result (Gives (S.files store.old) (given (command.Upgrade old.entry log.entry))) }
+    ensures ok { IfOk result (Gives (S.told store.old) (S.told store.new) (given (command.Upgrade old.entry log.entry))) }
+    ensures err { IfErr result (NotGiven (S.told store.old) (S.told store.new) (given (command.Upgrade old.entry log.entry))) }
     ensures matched { IfOk result IsMatched }
-    ensures err { IfErr result (NotGiven (S.files store.old) (S.sound store.old) (S.faults store.old) (S.faults store.new) (given (command.Upgrade old.entry log.entry))) }
-
-    ensures files { S.files store.new ≡ S.files store.old }
-    ensures sound { S.sound store.new ≡ S.sound store.old }
-    ensures quiet { OnOk result (S.faults store.new ≡ S.faults store.old) }
 {
     let old = load_old(alloc, store, &old)?;
     Ok(Task::Upgrade {
@@ -151,13 +137,9 @@ fn take_check<'a, S: Store>(
     log: Name<'a>,
     schedule: Name<'a>,
 ) -> Result<Task<'a>, Status>
-    ensures ok { IfOk result (Gives (S.files store.old) (given (command.Check log.entry schedule.entry))) }
+    ensures ok { IfOk result (Gives (S.told store.old) (S.told store.new) (given (command.Check log.entry schedule.entry))) }
+    ensures err { IfErr result (NotGiven (S.told store.old) (S.told store.new) (given (command.Check log.entry schedule.entry))) }
     ensures matched { IfOk result IsMatched }
-    ensures err { IfErr result (NotGiven (S.files store.old) (S.sound store.old) (S.faults store.old) (S.faults store.new) (given (command.Check log.entry schedule.entry))) }
-
-    ensures files { S.files store.new ≡ S.files store.old }
-    ensures sound { S.sound store.new ≡ S.sound store.old }
-    ensures quiet { OnOk result (S.faults store.new ≡ S.faults store.old) }
 {
     let log = load_log(alloc, store, &log)?;
     let order = load_order(alloc, store, &schedule)?;
@@ -172,13 +154,9 @@ fn take_solve<'a, S: Store>(
     schedule: Name<'a>,
     budget: u32,
 ) -> Result<Task<'a>, Status>
-    ensures ok { IfOk result (Gives (S.files store.old) (given (command.Solve log.entry schedule.entry budget))) }
+    ensures ok { IfOk result (Gives (S.told store.old) (S.told store.new) (given (command.Solve log.entry schedule.entry budget))) }
+    ensures err { IfErr result (NotGiven (S.told store.old) (S.told store.new) (given (command.Solve log.entry schedule.entry budget))) }
     ensures matched { IfOk result IsMatched }
-    ensures err { IfErr result (NotGiven (S.files store.old) (S.sound store.old) (S.faults store.old) (S.faults store.new) (given (command.Solve log.entry schedule.entry budget))) }
-
-    ensures files { S.files store.new ≡ S.files store.old }
-    ensures sound { S.sound store.new ≡ S.sound store.old }
-    ensures quiet { OnOk result (S.faults store.new ≡ S.faults store.old) }
 {
     let log = load_log(alloc, store, &log)?;
     Ok(Task::Solve {
@@ -197,13 +175,9 @@ fn take_replay<'a, S: Store>(
     schedule: Name<'a>,
     budget: u32,
 ) -> Result<Task<'a>, Status>
-    ensures ok { IfOk result (Gives (S.files store.old) (given (command.Replay image.entry log.entry schedule.entry budget))) }
+    ensures ok { IfOk result (Gives (S.told store.old) (S.told store.new) (given (command.Replay image.entry log.entry schedule.entry budget))) }
+    ensures err { IfErr result (NotGiven (S.told store.old) (S.told store.new) (given (command.Replay image.entry log.entry schedule.entry budget))) }
     ensures matched { IfOk result IsMatched }
-    ensures err { IfErr result (NotGiven (S.files store.old) (S.sound store.old) (S.faults store.old) (S.faults store.new) (given (command.Replay image.entry log.entry schedule.entry budget))) }
-
-    ensures files { S.files store.new ≡ S.files store.old }
-    ensures sound { S.sound store.new ≡ S.sound store.old }
-    ensures quiet { OnOk result (S.faults store.new ≡ S.faults store.old) }
 {
     let image = load_image(alloc, store, &image)?;
     let log = load_log(alloc, store, &log)?;
@@ -222,13 +196,9 @@ pub fn take_up<'a, S: Store>(
     store: &mut S,
     command: Command<'a>,
 ) -> Result<Task<'a>, Status>
-    ensures ok { IfOk result (Gives (S.files store.old) (given command.entry)) }
+    ensures ok { IfOk result (Gives (S.told store.old) (S.told store.new) (given command.entry)) }
+    ensures err { IfErr result (NotGiven (S.told store.old) (S.told store.new) (given command.entry)) }
     ensures matched { IfOk result IsMatched }
-    ensures err { IfErr result (NotGiven (S.files store.old) (S.sound store.old) (S.faults store.old) (S.faults store.new) (given command.entry)) }
-
-    ensures files { S.files store.new ≡ S.files store.old }
-    ensures sound { S.sound store.new ≡ S.sound store.old }
-    ensures quiet { OnOk result (S.faults store.new ≡ S.faults store.old) }
 {
     match command {
         Command::Run {
@@ -246,6 +216,7 @@ pub fn take_up<'a, S: Store>(
         Command::Asm { text, image } => take_asm(alloc, store, text, image),
         Command::List { image } => take_list(alloc, store, image),
         Command::Show { log } => take_show(alloc, store, log),
+        Command::Races { log } => take_races(alloc, store, log),
         Command::Upgrade { old, log } => take_upgrade(alloc, store, old, log),
         Command::Check { log, schedule } => take_check(alloc, store, log, schedule),
         Command::Solve {

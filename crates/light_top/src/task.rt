@@ -1,17 +1,11 @@
 // Tasks: what is done of values alone, once all that a command names was loaded and read.
-ghost use Rattle.std.specs.Prelude.{◌≡◌, ℕ, List, [], ◌∷◌, ◌++◌, codes, length, IfOk, IfErr, ◌<◌, ◌^◌};
-ghost use Rattle.sha2.specs.Sha256.{sha256};
-ghost use Rattle.machine.specs.Runs.{rounds_of};
-ghost use Rattle.history.specs.Histories.{IsHistory};
-ghost use Rattle.recorder.specs.Records.{recorded_of};
-ghost use Rattle.log_file.specs.Spelling.{spelling};
-ghost use Rattle.transcript.specs.Transcripts.{transcript, transcript_of};
-ghost use Rattle.light_top.specs.Outputs.{printed_and_saved};
+ghost use Rattle.std.specs.Prelude.{◌≡◌, length, IfOk, IfErr, ◌<◌, ◌^◌};
 ghost use Rattle.replay_model.specs.Orders.{Respects};
 ghost use Rattle.light_top.specs.Logs.{logged_print, image_print};
 ghost use Rattle.light_top.specs.Solving.{IsSolved, IsReplayed, IsDisrespectful, Unsolved, Unreplayed};
 ghost use Rattle.light_top.specs.Statuses.{FailsBy};
-ghost use Rattle.light_top.specs.Tasks.{IsMatched, IsRecorded, Means, Fails};
+ghost use Rattle.light_top.specs.Tasks.{IsMatched, IsOfHistory, IsRecording, Means, Fails, rounds_text, respects_line, recording, most_pairs};
+ghost use Rattle.races.specs.Texts.{races_text};
 
 use crate::Status;
 use crate::arenas::play_arena;
@@ -22,17 +16,22 @@ use crate::order::Order;
 use crate::output::{Output, Saved};
 use crate::solving::{count_text, find_order, replay_text, with_order};
 use crate::words::Name;
+use constraints::Problem;
 use dep_log::RunLog;
 use history::Plain;
 use light_base::Memory;
 use log_file::{digest_of, write_log};
 use log_text::show_text;
 use machine::{Inputs, Limits, Program, write_image};
+use races::races_text;
 use recorder::{Gate, Recorded, record, record_workers};
 use schedule_check::{Verdict, check};
 use std::alloc::Global;
 use std::thread::Threads;
 use transcript::text_of;
+
+/// The most open pairs that are printed.
+const MOST_PAIRS: u32 = 10_000;
 
 /// What a command is to do.
 #[derive(Drop)]
@@ -87,6 +86,10 @@ pub enum Task<'a> {
         schedule: Name<'a>,
         budget: u32,
     },
+    /// To print which pairs of writes a log leaves open.
+    Races {
+        log: RunLog,
+    },
     /// To record an arena and to replay it.
     Arena {
         number: u32,
@@ -96,13 +99,13 @@ pub enum Task<'a> {
 // The transcript of a program whose threads take turns in rounds.
 fn play(alloc: Global, program: &Program, limits: Limits, inputs: &Inputs) -> Result<Bytes, Memory>
     requires { length inputs.now ≡ length program.now.threads }
-    ensures { IfOk result (λ text. text ≡ transcript_of program.now limits inputs.now (rounds_of program.now limits inputs.now)) }
+    ensures { IfOk result (λ text. text ≡ rounds_text program.now limits inputs.now) }
 {
     let mut plain = Plain::new(alloc, program, limits, inputs)?;
     plain.turns()?;
-    let finals = plain.values()?;
+    let last_values = plain.values()?;
     let reports = plain.into_reports()?;
-    let text = text_of(alloc, &reports, &finals)?;
+    let text = text_of(alloc, &reports, &last_values)?;
     Ok(Bytes::of(text))
 }
 
@@ -113,13 +116,12 @@ fn recording<'a>(
     image: &[u8],
     name: Name<'a>,
 ) -> Result<Output<'a>, Memory>
-    ensures { IfOk result (λ output. output ≡ printed_and_saved (transcript recorded.reports recorded.finals) name.entry
-        (spelling (record recorded.log { digest = sha256 image.now }))) }
+    ensures { IfOk result (λ output. output ≡ recording recorded image.now name.entry) }
 {
-    let (mut log, reports, finals) = recorded.into_parts();
+    let (mut log, reports, last_values) = recorded.into_parts();
     log.set_digest(digest_of(image));
     let bytes = Bytes::of(write_log(alloc, &log)?);
-    let text = Bytes::of(text_of(alloc, &reports, &finals)?);
+    let text = Bytes::of(text_of(alloc, &reports, &last_values)?);
     Ok(Output {
         text,
         saved: Some(Saved { name, bytes }),
@@ -137,7 +139,7 @@ fn record_with<R: Threads + Sync, G: Gate>(
     inputs: &Inputs,
 ) -> Result<Recorded, Memory>
     requires { length inputs.now ≡ length program.now.threads }
-    ensures { IfOk result (λ recorded. (history : List ℕ) × IsHistory program.now limits.now inputs.now history × (recorded ≡ recorded_of program.now limits.now inputs.now history)) }
+    ensures { IfOk result (IsOfHistory program.now limits.now inputs.now) }
 {
     match crew {
         Some(crew) => {
@@ -169,7 +171,7 @@ fn record_image<'a, R: Threads + Sync, G: Gate>(
     log: Name<'a>,
 ) -> Result<Output<'a>, Memory>
     requires { length inputs.now ≡ length image.now.program.threads }
-    ensures { IfOk result (λ output. (history : List ℕ) × IsHistory image.now.program limits.now inputs.now history × IsRecorded image.now limits.now inputs.now log.entry history output) }
+    ensures { IfOk result (IsRecording image.now limits.now inputs.now log.entry) }
 {
     let recorded = record_with(rt, alloc, gate, image.program(), limits, crew, inputs)?;
     recording(alloc, recorded, image.bytes(), log)
@@ -177,7 +179,7 @@ fn record_image<'a, R: Threads + Sync, G: Gate>(
 
 // The line that tells that an order respects a log.
 fn respects_line(alloc: Global) -> Result<Bytes, Memory>
-    ensures { IfOk result (λ text. text ≡ codes "respects" ++ 10 ∷ []) }
+    ensures { IfOk result (λ text. text ≡ respects_line) }
 {
     let mut text = Vec::new(alloc);
     text.extend_from_slice(b"respects\n")?;
@@ -187,13 +189,21 @@ fn respects_line(alloc: Global) -> Result<Bytes, Memory>
 // That an order respects a log.
 fn judge(alloc: Global, log: &RunLog, order: &Order) -> Result<Bytes, Status>
     requires { length order.now < 2 ^ 32 }
-    ensures ok { IfOk result (λ text. Respects log.now order.now × (text ≡ codes "respects" ++ 10 ∷ [])) }
+    ensures ok { IfOk result (λ text. Respects log.now order.now × (text ≡ respects_line)) }
     ensures err { IfErr result (FailsBy (IsDisrespectful log.now order.now)) }
 {
     match check(alloc, log, order.as_slice())? {
         Verdict::Respects => Ok(respects_line(alloc)?),
         Verdict::Fault(fault) => Err(Status::Disrespects(fault)),
     }
+}
+
+// Which pairs of writes a log leaves open.
+fn list_races(alloc: Global, log: &RunLog) -> Result<Bytes, Memory>
+    ensures { IfOk result (λ text. text ≡ races_text most_pairs log.now) }
+{
+    let problem = Problem::of(alloc, log)?;
+    Ok(Bytes::of(races_text(alloc, &problem, MOST_PAIRS)?))
 }
 
 // An order that respects a log, and how many events it has.
@@ -295,6 +305,10 @@ pub fn perform<'a, R: Threads + Sync, G: Gate>(
             schedule,
             budget,
         } => replay_log(alloc, &image, &log, schedule, budget),
+        Task::Races { log } => {
+            let text = list_races(alloc, &log)?;
+            Ok(Output { text, saved: None })
+        }
         Task::Arena { number } => {
             let text = play_arena(rt, alloc, gate, number)?;
             Ok(Output { text, saved: None })

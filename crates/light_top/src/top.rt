@@ -1,10 +1,10 @@
 // The top call: all that the program does, over any store and any sink.
-ghost use Rattle.std.specs.Prelude.{◌≡◌, IfSome, None, ◌↔◌, ◌⊎◌};
+ghost use Rattle.std.specs.Prelude.{◌≡◌, IfSome, None, ◌↔◌};
 ghost use Rattle.light_base.specs.Causes.{Rose};
 ghost use Rattle.light_top.specs.Words.{texts, command_of};
 ghost use Rattle.light_top.specs.Statuses.{status_of};
-ghost use Rattle.light_top.specs.Outside.{outside};
-ghost use Rattle.light_top.specs.Ends.{Ends, Answers, Declines, CanBeDone, Continues};
+ghost use Rattle.light_top.specs.Outside.{◌and◌};
+ghost use Rattle.light_top.specs.Ends.{Ends, Answers, Declines, Completes, Continues, ForCommand};
 ghost use Rattle.light_top.specs.Headline.{Records, Replays};
 
 use crate::Status;
@@ -27,8 +27,7 @@ fn carry_out<R: Threads + Sync, S: Store, K: Sink, G: Gate>(
     gate: &G,
     command: Command<'_>,
 ) -> Result<(), Status>
-    ensures { Ends command.entry (outside S.files S.sound S.faults K.taken K.faults store.old out.old)
-        (outside S.files S.sound S.faults K.taken K.faults store.new out.new) (status_of result) }
+    ensures { Ends command.entry (S.told store.old and K.told out.old) (S.told store.new and K.told out.new) (status_of result) }
 {
     let task = take_up(alloc, store, command)?;
     let output = perform(rt, alloc, gate, task)?;
@@ -45,16 +44,12 @@ fn obey<R: Threads + Sync, S: Store, K: Sink, G: Gate>(
     gate: &G,
     command: Command<'_>,
 ) -> Status
-    ensures ends { Ends command.entry (outside S.files S.sound S.faults K.taken K.faults store.old out.old)
-        (outside S.files S.sound S.faults K.taken K.faults store.new out.new) result }
-    ensures records { Records command.entry (outside S.files S.sound S.faults K.taken K.faults store.old out.old)
-        (outside S.files S.sound S.faults K.taken K.faults store.new out.new) result }
-    ensures replays { Replays command.entry (outside S.files S.sound S.faults K.taken K.faults store.old out.old)
-        (outside S.files S.sound S.faults K.taken K.faults store.new out.new) result }
-    ensures answers { IfSome (S.files store.old) (λ files. Answers command.entry files (S.sound store.old) result) }
-    ensures declines { IfSome (S.files store.old) (λ files. Declines command.entry files (S.sound store.old) result) }
-    ensures complete { CanBeDone command.entry (outside S.files S.sound S.faults K.taken K.faults store.old out.old)
-        (outside S.files S.sound S.faults K.taken K.faults store.new out.new) → (result ≡ Status.Ok) ⊎ (result ≡ Status.Memory) }
+    ensures ends { Ends command.entry (S.told store.old and K.told out.old) (S.told store.new and K.told out.new) result }
+    ensures records { Records command.entry (S.told store.old and K.told out.old) (S.told store.new and K.told out.new) result }
+    ensures replays { Replays command.entry (S.told store.old and K.told out.old) (S.told store.new and K.told out.new) result }
+    ensures answers { Answers command.entry (S.told store.old) result }
+    ensures declines { Declines command.entry (S.told store.old) result }
+    ensures complete { Completes command.entry (S.told store.old and K.told out.old) (S.told store.new and K.told out.new) result }
 {
     history_log_law();
     match carry_out(rt, alloc, store, out, gate, command) {
@@ -77,28 +72,23 @@ pub fn light<R: Threads + Sync, S: Store, K: Sink, G: Gate>(
     ensures untouched { result ≡ Status.Usage → (store.new ≡ store.old) × (out.new ≡ out.old) }
 
     // Each status has its cause, and leaves what it may.
-    ensures ends { IfSome (command_of (texts words.now)) (λ command. Ends command (outside S.files S.sound S.faults K.taken K.faults store.old out.old)
-        (outside S.files S.sound S.faults K.taken K.faults store.new out.new) result) }
-    ensures continues { Continues (outside S.files S.sound S.faults K.taken K.faults store.old out.old)
-        (outside S.files S.sound S.faults K.taken K.faults store.new out.new) }
+    ensures ends { ForCommand Ends words.now (S.told store.old and K.told out.old) (S.told store.new and K.told out.new) result }
+    ensures continues { Continues (S.told store.old and K.told out.old) (S.told store.new and K.told out.new) }
 
     // Whatever the interleaving, what was recorded is one whole history.
-    ensures records { IfSome (command_of (texts words.now)) (λ command. Records command (outside S.files S.sound S.faults K.taken K.faults store.old out.old)
-        (outside S.files S.sound S.faults K.taken K.faults store.new out.new) result) }
+    ensures records { ForCommand Records words.now (S.told store.old and K.told out.old) (S.told store.new and K.told out.new) result }
 
     // Handed a program and the log of any history of it, a replay prints that history's transcript.
-    ensures replays { IfSome (command_of (texts words.now)) (λ command. Replays command (outside S.files S.sound S.faults K.taken K.faults store.old out.old)
-        (outside S.files S.sound S.faults K.taken K.faults store.new out.new) result) }
+    ensures replays { ForCommand Replays words.now (S.told store.old and K.told out.old) (S.told store.new and K.told out.new) result }
 
     // What stands in the way is answered, and where nothing does, it is done.
-    ensures answers { IfSome (command_of (texts words.now)) (λ command. IfSome (S.files store.old) (λ files. Answers command files (S.sound store.old) result)) }
-    ensures declines { IfSome (command_of (texts words.now)) (λ command. IfSome (S.files store.old) (λ files. Declines command files (S.sound store.old) result)) }
-    ensures complete { IfSome (command_of (texts words.now)) (λ command. CanBeDone command (outside S.files S.sound S.faults K.taken K.faults store.old out.old)
-        (outside S.files S.sound S.faults K.taken K.faults store.new out.new) → (result ≡ Status.Ok) ⊎ (result ≡ Status.Memory)) }
+    ensures answers { IfSome (command_of (texts words.now)) (λ command. Answers command (S.told store.old) result) }
+    ensures declines { IfSome (command_of (texts words.now)) (λ command. Declines command (S.told store.old) result) }
+    ensures complete { ForCommand Completes words.now (S.told store.old and K.told out.old) (S.told store.new and K.told out.new) result }
 
     // The two faults come from outside.
-    ensures store_fault { result ≡ Status.StoreFault → Rose (S.faults store.old) (S.faults store.new) }
-    ensures sink_fault { result ≡ Status.SinkFault → Rose (K.faults out.old) (K.faults out.new) }
+    ensures store_fault { result ≡ Status.StoreFault → Rose (S.told store.old).faults (S.told store.new).faults }
+    ensures sink_fault { result ≡ Status.SinkFault → Rose (K.told out.old).faults (K.told out.new).faults }
 {
     match read_command(words) {
         Some(command) => obey(rt, alloc, store, out, gate, command),

@@ -1,10 +1,22 @@
 // The words of the command line.
 ghost use Rattle.std.specs.Prelude.{◌≡◌, ◌<◌, ◌^◌};
-ghost use Rattle.light_top.specs.Words.{is_plain, number_of, name_of, limits_of, inputs_of, crew_of, form_of, texts, run_of, record_of, asm_of, list_of, show_of, upgrade_of, check_of, solve_of, replay_of, arena_of_words, command_of};
+ghost use Rattle.light_top.specs.Words.{is_plain, number_of, any_number_of, name_of, limits_of, inputs_of, crew_of, form_of, texts, run_of, record_of, asm_of, list_of, show_of, upgrade_of, check_of, solve_of, replay_of, races_of, arena_of_words, command_of};
 
 use crate::crew::Crew;
 use machine::Limits;
 use std::marker::Model;
+
+/// The most memory steps that limits may allow, and that a thread may take in its turn on a worker.
+const MOST_STEPS: u32 = 268_435_455;
+
+/// The most instructions that limits may allow.
+const MOST_INSTR: u32 = 1_073_741_824;
+
+/// The most log entries of a thread that limits may allow.
+const MOST_ENTRIES: u32 = 16_384;
+
+/// The most workers.
+const MOST_WORKERS: u32 = 15;
 
 /// A file's name: any text that isn't empty.
 #[derive(Drop)]
@@ -91,6 +103,10 @@ pub enum Command<'a> {
         schedule: Name<'a>,
         budget: u32,
     },
+    /// Prints which pairs of writes a log leaves open.
+    Races {
+        log: Name<'a>,
+    },
     /// Records an arena program, and replays it.
     Arena {
         number: u32,
@@ -124,15 +140,15 @@ fn number(word: &str, most: u32) -> Option<u32>
 fn limits(steps: &str, instr: &str, entries: &str) -> Option<Limits>
     ensures { result ≡ limits_of steps.now instr.now entries.now }
 {
-    let steps = number(steps, 268_435_455)?;
-    let instr = number(instr, 1_073_741_824)?;
-    let entries = number(entries, 16_384)?;
+    let steps = number(steps, MOST_STEPS)?;
+    let instr = number(instr, MOST_INSTR)?;
+    let entries = number(entries, MOST_ENTRIES)?;
     Limits::new(steps, instr, entries)
 }
 
 // Any number of 32 bits.
 fn any_number(word: &str) -> Option<u32>
-    ensures { result ≡ number_of 4294967295 word.now }
+    ensures { result ≡ any_number_of word.now }
 {
     number(word, u32::MAX)
 }
@@ -151,8 +167,8 @@ fn inputs<'a>(words: &'a [String]) -> Option<Option<Name<'a>>>
 fn crew(workers: &str, slice: &str) -> Option<Crew>
     ensures { result ≡ crew_of workers.now slice.now }
 {
-    let workers = number(workers, 15)?;
-    let slice = number(slice, 268_435_455)?;
+    let workers = number(workers, MOST_WORKERS)?;
+    let slice = number(slice, MOST_STEPS)?;
     Crew::new(workers as u8, slice)
 }
 
@@ -289,6 +305,17 @@ fn replay<'a>(words: &'a [String]) -> Option<Command<'a>>
     }
 }
 
+fn races<'a>(words: &'a [String]) -> Option<Command<'a>>
+    ensures { result ≡ races_of (texts words.now) }
+{
+    match words {
+        [log] => Some(Command::Races {
+            log: Name::of(log.as_str())?,
+        }),
+        _ => None,
+    }
+}
+
 fn arena<'a>(words: &'a [String]) -> Option<Command<'a>>
     ensures { result ≡ arena_of_words (texts words.now) }
 {
@@ -315,6 +342,7 @@ pub fn read_command<'a>(words: &'a [String]) -> Option<Command<'a>>
             "check" => check(rest),
             "solve" => solve(rest),
             "replay" => replay(rest),
+            "races" => races(rest),
             "arena" => arena(rest),
             _ => None,
         },

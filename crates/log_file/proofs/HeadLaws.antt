@@ -32,7 +32,7 @@ unfolding reaches
 reaches-again bytes place le = rw (le-ltb (length bytes) place le) refl
 
 abbrev pub head_of_log : Log → Head
-head_of_log log = record { threads = length log.threads; words = length log.lasts; limits = log.limits }
+head_of_log log = record { threads = length log.threads; words = length log.last_tags; limits = log.limits }
 
 -- a head that was read
 pub record IsHead (version : Version) (bytes : List ℕ) (head : Head) : Type 0 where
@@ -96,7 +96,7 @@ abbrev parts : List ℕ → ℕ → ℕ → List ℕ → Limits → List ℕ
 parts begin threads words digest limits =
     begin ++ threads ∷ [] ++ to_be_bytes w16 words ++ digest ++ (to_be_bytes w32 limits.steps ++ to_be_bytes w32 limits.instr ++ to_be_bytes w32 limits.entries)
 
-parts-are : (version : Version) (log : Log) → parts (magic_of version) (length log.threads) (length log.lasts) log.digest log.limits ≡ head_bytes version log
+parts-are : (version : Version) (log : Log) → parts (magic_of version) (length log.threads) (length log.last_tags) log.digest log.limits ≡ head_bytes version log
 unfolding head_bytes limits_bytes
 parts-are version log = refl
 
@@ -124,12 +124,12 @@ parts_stand bytes fits there =
 -- the head that was read stands in front of the bytes
 pub head_stands : (version : Version) (bytes : List ℕ) (log : Log) → IsBytes bytes → IsHead version bytes (head_of_log log) → slice_range bytes 7 39 ≡ log.digest → bytes ≡ head_bytes version log ++ drop 51 bytes
 head_stands version bytes log fits h digest =
-    let same : parts (take 4 bytes) (slice_index bytes 4) (half_at bytes 5) (slice_range bytes 7 39) (limits_in bytes) ≡ parts (magic_of version) (length log.threads) (length log.lasts) log.digest log.limits =
+    let same : parts (take 4 bytes) (slice_index bytes 4) (half_at bytes 5) (slice_range bytes 7 39) (limits_in bytes) ≡ parts (magic_of version) (length log.threads) (length log.last_tags) log.digest log.limits =
     ap (λ (m : List ℕ). parts m (slice_index bytes 4) (half_at bytes 5) (slice_range bytes 7 39) (limits_in bytes)) h.begins ∙
     ap (λ (k : ℕ). parts (magic_of version) k (half_at bytes 5) (slice_range bytes 7 39) (limits_in bytes)) h.threads_are ∙
     ap (λ (k : ℕ). parts (magic_of version) (length log.threads) k (slice_range bytes 7 39) (limits_in bytes)) h.words_are ∙
-    ap (λ (d : List ℕ). parts (magic_of version) (length log.threads) (length log.lasts) d (limits_in bytes)) digest ∙
-    ap (parts (magic_of version) (length log.threads) (length log.lasts) log.digest) h.limits_are in
+    ap (λ (d : List ℕ). parts (magic_of version) (length log.threads) (length log.last_tags) d (limits_in bytes)) digest ∙
+    ap (parts (magic_of version) (length log.threads) (length log.last_tags) log.digest) h.limits_are in
     parts_stand bytes fits h.there ∙ ap (λ (xs : List ℕ). xs ++ drop 51 bytes) (same ∙ parts-are version log)
 
 -- what a head in front of the bytes is read as
@@ -155,12 +155,12 @@ read_again version bytes head h =
     ap (λ (x : Head). are_counts x.threads x.words && are_limits x.limits) same ∙ range_tested head.threads head.words head.limits h.range in
     rw (reaches-again bytes 51 h.there, begins-again version bytes h.begins, range) (ap Ok same)
 
-pub head_again : (version : Version) (bytes : List ℕ) (log : Log) (rest : List ℕ) → IsInRange (length log.threads) (length log.lasts) log.limits → length log.digest ≡ 32 →
+pub head_again : (version : Version) (bytes : List ℕ) (log : Log) (rest : List ℕ) → IsInRange (length log.threads) (length log.last_tags) log.limits → length log.digest ≡ 32 →
     bytes ≡ head_bytes version log ++ rest → ReadsHead version bytes log rest
 head_again version bytes log rest range sized stands =
     let m = magic_of version in
     let t = length log.threads ∷ [] in
-    let w = to_be_bytes w16 (length log.lasts) in
+    let w = to_be_bytes w16 (length log.last_tags) in
     let d = log.digest in
     let s = to_be_bytes w32 log.limits.steps in
     let i = to_be_bytes w32 log.limits.instr in
@@ -190,7 +190,7 @@ head_again version bytes log rest range sized stands =
             range = range;
             begins = ap (take 4) one ∙ take_at m (t ++ (w ++ (d ++ (limits ++ rest)))) 4 len;
             threads_are = byte_again bytes 4 (length log.threads) (w ++ (d ++ (limits ++ rest))) fourth;
-            words_are = half_again bytes 5 (length log.lasts) (d ++ (limits ++ rest)) (omega (arith, range.words)) fifth;
+            words_are = half_again bytes 5 (length log.last_tags) (d ++ (limits ++ rest)) (omega (arith, range.words)) fifth;
             limits_are = λ j. record { steps = steps j; instr = instr j; entries = entries j };
           });
       digest = ap (take 32) digest ∙ take_at d (limits ++ rest) 32 sized;

@@ -16,7 +16,7 @@ use Rattle.log_file.specs.declared.version.Version.TheVariants.{One, Two}
 use Rattle.log_file.specs.LogFaults.{fault}
 use Rattle.log_file.specs.declared.log_fault.LogKind.TheVariants as kind
 use Rattle.log_file.specs.Spelling.{code_of_end, address_of_end, header_bytes, tag_bytes, entries_bytes, taken_bytes, head_bytes, spelling_in, IsText}
-use Rattle.log_file.specs.LogReading.{Head, Header, no_header, reaches, head_in, headers_in, lasts_in, threads_in, steps_of, lasts_place, entries_place, taken_place, log_end, body_in, log_read}
+use Rattle.log_file.specs.LogReading.{Head, Header, no_header, reaches, head_in, headers_in, last_tags_in, threads_in, steps_of, last_tags_place, entries_place, taken_place, log_end, body_in, log_read}
 use Rattle.log_file.proofs.RowLaws.{AllAfter, AllAfter-map, AllAfter-at, ok_then}
 use Rattle.log_file.proofs.FieldLaws.{joined}
 use Rattle.log_file.proofs.TagLaws.{steps_in, IsTagIn, tag_of_log}
@@ -25,7 +25,7 @@ use Rattle.log_file.proofs.HeaderLaws.{IsWithin, CountsTaken, header_text}
 use Rattle.log_file.proofs.HeadLaws.{reaches-take, head_of_log, IsHead, head_take, head_stands}
 use Rattle.log_file.proofs.ThreadLaws.{AreNext, rises, differ, part_ways, entries_formed}
 use Rattle.log_file.proofs.ThreadReads.{header_of_thread}
-use Rattle.log_file.proofs.LogRows.{IsSound, headers_take, lasts_take}
+use Rattle.log_file.proofs.LogRows.{IsSound, headers_take, last_tags_take}
 use Rattle.log_file.proofs.ThreadRows.{headers_of, IsNextLog, threads_take}
 
 -- ---- headers of threads
@@ -48,11 +48,11 @@ steps_of_headers threads = map-map (λ (h : Header). h.steps) header_of_thread t
 -- the parts of a log that was read
 pub record AreParts (version : Version) (bytes : List ℕ) (head : Head) (headers : List Header) (log : Log) : Type 0 where
   pub front : IsHead version bytes head
-  pub first : lasts_place version head ≤ length bytes
+  pub first : last_tags_place version head ≤ length bytes
   pub told : headers_in version head bytes ≡ Ok headers
   pub all_there : log_end version head headers ≤ length bytes
   pub no_more : length bytes ≤ log_end version head headers
-  pub lasts_told : lasts_in (steps_of headers) bytes (lasts_place version head) head.words ≡ Ok log.lasts
+  pub last_tags_told : last_tags_in (steps_of headers) bytes (last_tags_place version head) head.words ≡ Ok log.last_tags
   pub threads_told : threads_in head.words headers bytes (entries_place version head) (taken_place version head headers) ≡ Ok log.threads
   pub digest_is : slice_range bytes 7 39 ≡ log.digest
   pub limits_are : head.limits ≡ log.limits
@@ -62,25 +62,25 @@ unfolding log_read body_in
 log_parts version bytes log e =
     let h = ok_then (head_in version bytes) _ log e in
     let head : Head = h.0 in
-    let first = ok_then (reaches bytes (lasts_place version head)) _ log h.2 in
+    let first = ok_then (reaches bytes (last_tags_place version head)) _ log h.2 in
     let hs = ok_then (headers_in version head bytes) _ log first.2 in
     let headers : List Header = hs.0 in
     let all = ok_then (reaches bytes (log_end version head headers)) _ log hs.2 in
-    let tags = ok_then (lasts_in (steps_of headers) bytes (lasts_place version head) head.words) _ log all.2 in
+    let tags = ok_then (last_tags_in (steps_of headers) bytes (last_tags_place version head) head.words) _ log all.2 in
     let logs = ok_then (threads_in head.words headers bytes (entries_place version head) (taken_place version head headers)) _ log tags.2 in
     let last = passed (ltb (log_end version head headers) (length bytes)) (fault kind.Long (log_end version head headers)) _ log logs.2 in
-    let same : record { digest = slice_range bytes 7 39; limits = head.limits; threads = logs.0; lasts = tags.0 } ≡ log = cc last.1 in
+    let same : record { digest = slice_range bytes 7 39; limits = head.limits; threads = logs.0; last_tags = tags.0 } ≡ log = cc last.1 in
     let threads : logs.0 ≡ log.threads = ap (λ (l : Log). l.threads) same in
-    let lasts : tags.0 ≡ log.lasts = ap (λ (l : Log). l.lasts) same in (
+    let last_tags : tags.0 ≡ log.last_tags = ap (λ (l : Log). l.last_tags) same in (
       head,
       headers,
       record {
         front = head_take version bytes head h.1;
-        first = reaches-take bytes (lasts_place version head) first.0 first.1;
+        first = reaches-take bytes (last_tags_place version head) first.0 first.1;
         told = hs.1;
         all_there = reaches-take bytes (log_end version head headers) all.0 all.1;
         no_more = ltb-false (log_end version head headers) (length bytes) last.0;
-        lasts_told = tags.1 ∙ ap Ok lasts;
+        last_tags_told = tags.1 ∙ ap Ok last_tags;
         threads_told = logs.1 ∙ ap Ok threads;
         digest_is = ap (λ (l : Log). l.digest) same;
         limits_are = ap (λ (l : Log). l.limits) same;
@@ -93,7 +93,7 @@ module _ (version : Version) (bytes : List ℕ) (fits : IsBytes bytes) (head : H
     pub head_is : head ≡ head_of_log log
     pub headers_are : headers_of log.threads ≡ headers
     pub sound : AllAfter (λ b h. IsSound version head bytes h) [] headers
-    pub tags : AllAfter (λ b t. IsTagIn (steps_in log) t) [] log.lasts
+    pub tags : AllAfter (λ b t. IsTagIn (steps_in log) t) [] log.last_tags
     pub logged : AllAfter (IsNextLog head.words headers bytes (entries_place version head) (taken_place version head headers)) [] log.threads
     pub steps_are : steps_of headers ≡ steps_in log
     pub stands : bytes ≡ spelling_in version log
@@ -102,37 +102,37 @@ module _ (version : Version) (bytes : List ℕ) (fits : IsBytes bytes) (head : H
   unfolding spelling_in
   told =
       let hs = headers_take version head bytes headers fits parts.first parts.told in
-      let ts = lasts_take (steps_of headers) bytes (lasts_place version head) head.words log.lasts fits (omega (arith, parts.all_there)) parts.lasts_told in
+      let ts = last_tags_take (steps_of headers) bytes (last_tags_place version head) head.words log.last_tags fits (omega (arith, parts.all_there)) parts.last_tags_told in
       let ls = threads_take head.words headers bytes (entries_place version head) (taken_place version head headers) fits (omega (arith, parts.all_there)) parts.all_there log.threads parts.threads_told in
       let steps : steps_of headers ≡ steps_in log = ap steps_of (sym ls.0) ∙ steps_of_headers log.threads in
       let threads : head.threads ≡ length log.threads = sym hs.0 ∙ ap length (sym ls.0) ∙ length-map log.threads header_of_thread in
-      let words : head.words ≡ length log.lasts = sym ts.0 in
+      let words : head.words ≡ length log.last_tags = sym ts.0 in
       let limits = parts.limits_are in
       let same : head ≡ head_of_log log = λ j. record { threads = threads j; words = words j; limits = limits j } in
       let front : IsHead version bytes (head_of_log log) = subst (IsHead version bytes) same parts.front in
       let one = head_stands version bytes log fits front parts.digest_is in
-      let two = hs.2 ∙ ap (λ (hs : List Header). flat_map (header_text version) hs ++ drop (lasts_place version head) bytes) (sym ls.0) ∙ ap (λ (xs : List ℕ). xs ++ drop (lasts_place version head) bytes) (headers_spelled version log.threads) in
+      let two = hs.2 ∙ ap (λ (hs : List Header). flat_map (header_text version) hs ++ drop (last_tags_place version head) bytes) (sym ls.0) ∙ ap (λ (xs : List ℕ). xs ++ drop (last_tags_place version head) bytes) (headers_spelled version log.threads) in
       let five : drop (taken_place version head headers) bytes ≡ flat_map taken_bytes log.threads =
       ls.3 ∙ ap (λ (xs : List ℕ). flat_map taken_bytes log.threads ++ xs) (drop_all (log_end version head headers) bytes parts.no_more) ∙ append-nil (flat_map taken_bytes log.threads) in
-      let a = joined bytes (head_bytes version log) (drop 51 bytes) (flat_map (header_bytes version) log.threads) (drop (lasts_place version head) bytes) one two in
-      let b = joined bytes (head_bytes version log ++ flat_map (header_bytes version) log.threads) (drop (lasts_place version head) bytes) (flat_map tag_bytes log.lasts) (drop (entries_place version head) bytes) a ts.2 in
-      let c = joined bytes (head_bytes version log ++ flat_map (header_bytes version) log.threads ++ flat_map tag_bytes log.lasts) (drop (entries_place version head) bytes) (flat_map entries_bytes log.threads)
+      let a = joined bytes (head_bytes version log) (drop 51 bytes) (flat_map (header_bytes version) log.threads) (drop (last_tags_place version head) bytes) one two in
+      let b = joined bytes (head_bytes version log ++ flat_map (header_bytes version) log.threads) (drop (last_tags_place version head) bytes) (flat_map tag_bytes log.last_tags) (drop (entries_place version head) bytes) a ts.2 in
+      let c = joined bytes (head_bytes version log ++ flat_map (header_bytes version) log.threads ++ flat_map tag_bytes log.last_tags) (drop (entries_place version head) bytes) (flat_map entries_bytes log.threads)
       (drop (taken_place version head headers) bytes) b ls.2 in
       record {
         head_is = same;
         headers_are = ls.0;
         sound = hs.1;
-        tags = AllAfter-map _ (λ b t. IsTagIn (steps_in log) t) (λ b t h. subst (λ (xs : List ℕ). IsTagIn xs t) steps h) [] log.lasts ts.1;
+        tags = AllAfter-map _ (λ b t. IsTagIn (steps_in log) t) (λ b t h. subst (λ (xs : List ℕ). IsTagIn xs t) steps h) [] log.last_tags ts.1;
         logged = ls.1;
         steps_are = steps;
-        stands = c ∙ ap (λ (xs : List ℕ). (head_bytes version log ++ flat_map (header_bytes version) log.threads ++ flat_map tag_bytes log.lasts ++ flat_map entries_bytes log.threads) ++ xs) five;
+        stands = c ∙ ap (λ (xs : List ℕ). (head_bytes version log ++ flat_map (header_bytes version) log.threads ++ flat_map tag_bytes log.last_tags ++ flat_map entries_bytes log.threads) ++ xs) five;
       }
 
   -- what is known of the log of each thread
   record IsKnown (t : ThreadLog) : Type 0 where
-    pub within : IsWithin version (length log.lasts) log.limits (header_of_thread t)
+    pub within : IsWithin version (length log.last_tags) log.limits (header_of_thread t)
     pub address : address_of_end t.end < 2 ^ 32
-    pub next : AreNext (length log.lasts) (steps_in log) t.steps t.entries
+    pub next : AreNext (length log.last_tags) (steps_in log) t.steps t.entries
     pub numbers : All (λ n. n < 2 ^ 32) t.taken
 
   known : All IsKnown log.threads
@@ -145,7 +145,7 @@ module _ (version : Version) (bytes : List ℕ) (fits : IsBytes bytes) (head : H
       let count : length (take i log.threads) ≡ i = length-take-le i log.threads (omega arith) in
       let header : header_of_thread t ≡ get_or headers i no_header = l.header ∙ ap (λ (k : ℕ). get_or headers k no_header) count in
       let s = AllAfter-at (λ b h. IsSound version head bytes h) [] headers is.sound i no_header within_headers in
-      let words : head.words ≡ length log.lasts = ap (λ (h : Head). h.words) is.head_is in
+      let words : head.words ≡ length log.last_tags = ap (λ (h : Head). h.words) is.head_is in
       let limits : head.limits ≡ log.limits = ap (λ (h : Head). h.limits) is.head_is in
       record {
         within = subst (λ (h : Head). IsWithin version h.words h.limits (header_of_thread t)) is.head_is (subst (IsWithin version head.words head.limits) (sym header) s.0);
@@ -162,9 +162,9 @@ module _ (version : Version) (bytes : List ℕ) (fits : IsBytes bytes) (head : H
     end = k.within.end;
     taken = k.within.taken;
     each = entries_formed log t k.next;
-    rising = rises (length log.lasts) (steps_in log) t.steps t.entries k.next;
-    once = differ (length log.lasts) (steps_in log) t.steps t.entries k.next;
-    apart = part_ways (length log.lasts) (steps_in log) t.steps t.entries k.next;
+    rising = rises (length log.last_tags) (steps_in log) t.steps t.entries k.next;
+    once = differ (length log.last_tags) (steps_in log) t.steps t.entries k.next;
+    apart = part_ways (length log.last_tags) (steps_in log) t.steps t.entries k.next;
   }
 
   pub log_takes : IsText version bytes log
@@ -174,7 +174,7 @@ module _ (version : Version) (bytes : List ℕ) (fits : IsBytes bytes) (head : H
         formed = record {
           range = subst (λ (h : Head). IsInRange h.threads h.words h.limits) is.head_is parts.front.range;
           threads = λ t lt. thread_formed (thread_of log t) (known t no_thread lt);
-          lasts = λ word lt. tag_of_log log (last_tag log word) (AllAfter-at (λ b t. IsTagIn (steps_in log) t) [] log.lasts is.tags word None lt).taken;
+          last_tags = λ word lt. tag_of_log log (last_tag log word) (AllAfter-at (λ b t. IsTagIn (steps_in log) t) [] log.last_tags is.tags word None lt).taken;
         };
         numbers = record {
           digest = ap length (sym parts.digest_is) ∙ length-take-le 32 (drop 7 bytes) (omega (arith, length-drop 7 bytes, parts.front.there));

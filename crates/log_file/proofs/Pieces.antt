@@ -70,14 +70,14 @@ pub length-spelling : (log : Log) → length log.digest ≡ 32 → length (spell
 unfolding spelling_in
 length-spelling log digest =
     let headers = flat_map (header_bytes Two) log.threads in
-    let tags = flat_map tag_bytes log.lasts in
+    let tags = flat_map tag_bytes log.last_tags in
     let entries = flat_map entries_bytes log.threads in
     let taken = flat_map taken_bytes log.threads in
     omega (
       arith,
       length-head log digest,
       length-headers Two log.threads,
-      length-tags log.lasts,
+      length-tags log.last_tags,
       length-all_entries log.threads,
       length-all_taken log.threads,
       length-append (((head_bytes Two log ++ headers) ++ tags) ++ entries) taken,
@@ -87,12 +87,12 @@ length-spelling log digest =
     )
 
 -- five pieces, written one after the other
-pub written : (log : Log) (one two three four five : List ℕ) → one ≡ head_bytes Two log → two ≡ one ++ flat_map (header_bytes Two) log.threads → three ≡ two ++ flat_map tag_bytes log.lasts →
+pub written : (log : Log) (one two three four five : List ℕ) → one ≡ head_bytes Two log → two ≡ one ++ flat_map (header_bytes Two) log.threads → three ≡ two ++ flat_map tag_bytes log.last_tags →
     four ≡ three ++ flat_map entries_bytes log.threads → five ≡ four ++ flat_map taken_bytes log.threads → five ≡ spelling log
 unfolding spelling_in
 written log one two three four five p q r s t =
     t ∙ ap (λ bytes. bytes ++ flat_map taken_bytes log.threads) (s ∙ ap (λ bytes. bytes ++ flat_map entries_bytes log.threads) (r ∙
-    ap (λ bytes. bytes ++ flat_map tag_bytes log.lasts) (q ∙ ap (λ bytes. bytes ++ flat_map (header_bytes Two) log.threads) p)))
+    ap (λ bytes. bytes ++ flat_map tag_bytes log.last_tags) (q ∙ ap (λ bytes. bytes ++ flat_map (header_bytes Two) log.threads) p)))
 
 -- ---- what holds of each item
 

@@ -14,7 +14,7 @@ use Rattle.log_file.specs.declared.version.Version.TheVariants.{One, Two}
 use Rattle.log_file.specs.LogFaults.{LogFault, LogKind, fault, out_of_memory}
 use Rattle.log_file.specs.declared.log_fault.LogKind.TheVariants as kind
 use Rattle.log_file.specs.Spelling.{code_of_end, header_bytes, tag_bytes, entries_bytes, taken_bytes, head_bytes, spelling_in, HasNumbers, IsText}
-use Rattle.log_file.specs.LogReading.{Gives, head_in, headers_in, lasts_in, threads_in, steps_of, header_entries, header_taken, lasts_place, entries_place, taken_place, log_end, body_in, log_read}
+use Rattle.log_file.specs.LogReading.{Gives, head_in, headers_in, last_tags_in, threads_in, steps_of, header_entries, header_taken, last_tags_place, entries_place, taken_place, log_end, body_in, log_read}
 use Rattle.log_file.proofs.Pieces.{length-headers, length-tags, length-all_entries, length-all_taken}
 use Rattle.log_file.proofs.RowLaws.{AllAfter, AllAfter-from}
 use Rattle.log_file.proofs.FieldLaws.{parted}
@@ -23,7 +23,7 @@ use Rattle.log_file.proofs.HeaderLaws.{IsWithin, CountsTaken, HasSmallLimits, he
 use Rattle.log_file.proofs.HeadLaws.{reaches-again, head_of_log, head_again, head_there}
 use Rattle.log_file.proofs.ThreadLaws.{AreNext, entries_next}
 use Rattle.log_file.proofs.ThreadReads.{header_of_thread}
-use Rattle.log_file.proofs.LogRows.{IsSound, headers_again, lasts_again}
+use Rattle.log_file.proofs.LogRows.{IsSound, headers_again, last_tags_again}
 use Rattle.log_file.proofs.ThreadRows.{headers_of, entries_counted, taken_counted, IsReadable, threads_again, behind_entries, behind_taken}
 use Rattle.log_file.proofs.LogLaws.{headers_spelled, steps_of_headers}
 
@@ -56,7 +56,7 @@ module _ (version : Version) (log : Log) (formed : IsWellFormed log) (numbers : 
       go One old = ap length (old.taken t no_thread lt)
       go Two told = tt
 
-  within : (t : ℕ) → t < length log.threads → IsWithin version (length log.lasts) log.limits (header_of_thread (thread_of log t))
+  within : (t : ℕ) → t < length log.threads → IsWithin version (length log.last_tags) log.limits (header_of_thread (thread_of log t))
   within t lt =
       let own = formed.threads t lt in
       record { steps = own.steps; instr = own.instr; entries = own.entries; taken = own.taken; end = own.end; known = known_end version (thread_of log t).end (no_input t lt); counted = counted t lt }
@@ -71,16 +71,16 @@ module _ (version : Version) (log : Log) (formed : IsWellFormed log) (numbers : 
       let is : get_or (headers_of log.threads) i d ≡ header_of_thread (thread_of log i) = get_or-map header_of_thread log.threads i no_thread d here in
       subst (IsSound version (head_of_log log) bytes) (sym is) (within i here, numbers.addresses i no_thread here))
 
-  tags_taken : AllAfter (λ b t. IsTagIn (steps_in log) t) [] log.lasts
-  tags_taken = AllAfter-from (λ b t. IsTagIn (steps_in log) t) [] log.lasts (λ i d lt. tag_is_taken log formed (get_or log.lasts i d) (tag_at i d lt))
+  tags_taken : AllAfter (λ b t. IsTagIn (steps_in log) t) [] log.last_tags
+  tags_taken = AllAfter-from (λ b t. IsTagIn (steps_in log) t) [] log.last_tags (λ i d lt. tag_is_taken log formed (get_or log.last_tags i d) (tag_at i d lt))
     where
-      tag_at : (i : ℕ) (d : Tag) → i < length log.lasts → IsTagOf log (get_or log.lasts i d)
-      tag_at i d lt = subst (IsTagOf log) (get_or_default log.lasts i None d lt) (formed.lasts i lt)
+      tag_at : (i : ℕ) (d : Tag) → i < length log.last_tags → IsTagOf log (get_or log.last_tags i d)
+      tag_at i d lt = subst (IsTagOf log) (get_or_default log.last_tags i None d lt) (formed.last_tags i lt)
 
-  threads_readable : All (IsReadable (length log.lasts) (steps_of (headers_of log.threads))) log.threads
-  threads_readable i d lt = subst (IsReadable (length log.lasts) (steps_of (headers_of log.threads))) (get_or_default log.threads i no_thread d lt)
+  threads_readable : All (IsReadable (length log.last_tags) (steps_of (headers_of log.threads))) log.threads
+  threads_readable i d lt = subst (IsReadable (length log.last_tags) (steps_of (headers_of log.threads))) (get_or_default log.threads i no_thread d lt)
       (record {
-        next = subst (λ (xs : List ℕ). AreNext (length log.lasts) xs (thread_of log i).steps (thread_of log i).entries) (sym (steps_of_headers log.threads)) (entries_next log (thread_of log i) formed (formed.threads i lt));
+        next = subst (λ (xs : List ℕ). AreNext (length log.last_tags) xs (thread_of log i).steps (thread_of log i).entries) (sym (steps_of_headers log.threads)) (entries_next log (thread_of log i) formed (formed.threads i lt));
         short = let own = (formed.threads i lt).steps in let r = formed.range in omega (arith, own, r.steps);
         numbers = numbers.taken i no_thread lt;
       })
@@ -98,10 +98,10 @@ module _ (version : Version) (log : Log) (formed : IsWellFormed log) (numbers : 
   record IsRead : Type 0 where
     pub front : head_in version bytes ≡ Ok (head_of_log log)
     pub digest_is : slice_range bytes 7 39 ≡ log.digest
-    pub first : lasts_place version (head_of_log log) ≤ length bytes
+    pub first : last_tags_place version (head_of_log log) ≤ length bytes
     pub headers_read : headers_in version (head_of_log log) bytes ≡ Ok (headers_of log.threads)
-    pub lasts_read : lasts_in (steps_of (headers_of log.threads)) bytes (lasts_place version (head_of_log log)) (length log.lasts) ≡ Ok log.lasts
-    pub threads_read : threads_in (length log.lasts) (headers_of log.threads) bytes (entries_place version (head_of_log log)) (taken_place version (head_of_log log) (headers_of log.threads)) ≡ Ok log.threads
+    pub last_tags_read : last_tags_in (steps_of (headers_of log.threads)) bytes (last_tags_place version (head_of_log log)) (length log.last_tags) ≡ Ok log.last_tags
+    pub threads_read : threads_in (length log.last_tags) (headers_of log.threads) bytes (entries_place version (head_of_log log)) (taken_place version (head_of_log log) (headers_of log.threads)) ≡ Ok log.threads
     pub whole : length bytes ≡ log_end version (head_of_log log) (headers_of log.threads) + length more
 
   read : IsRead
@@ -109,7 +109,7 @@ module _ (version : Version) (log : Log) (formed : IsWellFormed log) (numbers : 
   read =
       let hb = head_bytes version log in
       let hs = flat_map (header_bytes version) log.threads in
-      let ts = flat_map tag_bytes log.lasts in
+      let ts = flat_map tag_bytes log.last_tags in
       let es = flat_map entries_bytes log.threads in
       let ns = flat_map taken_bytes log.threads in
       let p4 : bytes ≡ (hb ++ hs ++ ts ++ es) ++ (ns ++ more) = parted bytes (hb ++ hs ++ ts ++ es) ns more stands in
@@ -120,18 +120,18 @@ module _ (version : Version) (log : Log) (formed : IsWellFormed log) (numbers : 
       let spelled : drop 51 bytes ≡ flat_map (header_text version) (headers_of log.threads) ++ (ts ++ (es ++ (ns ++ more))) =
       h.behind_it ∙ ap (λ (xs : List ℕ). xs ++ (ts ++ (es ++ (ns ++ more)))) (sym (headers_spelled version log.threads)) in
       let hs_read = headers_again version (head_of_log log) bytes (headers_of log.threads) (ts ++ (es ++ (ns ++ more))) (length-map log.threads header_of_thread) (small version log formed numbers told) (headers_sound version log formed numbers told bytes) spelled in
-      let tags : AllAfter (λ b t. IsTagIn (steps_of (headers_of log.threads)) t) [] log.lasts =
-      subst (λ (xs : List ℕ). AllAfter (λ b t. IsTagIn xs t) [] log.lasts) (sym (steps_of_headers log.threads)) (tags_taken version log formed numbers told) in
-      let ts_read = lasts_again (steps_of (headers_of log.threads)) bytes (lasts_place version (head_of_log log)) log.lasts (es ++ (ns ++ more)) tags hs_read.1 in
+      let tags : AllAfter (λ b t. IsTagIn (steps_of (headers_of log.threads)) t) [] log.last_tags =
+      subst (λ (xs : List ℕ). AllAfter (λ b t. IsTagIn xs t) [] log.last_tags) (sym (steps_of_headers log.threads)) (tags_taken version log formed numbers told) in
+      let ts_read = last_tags_again (steps_of (headers_of log.threads)) bytes (last_tags_place version (head_of_log log)) log.last_tags (es ++ (ns ++ more)) tags hs_read.1 in
       let at = entries_place version (head_of_log log) in
       let from = taken_place version (head_of_log log) (headers_of log.threads) in
       let entries_stand : drop at bytes ≡ es ++ (ns ++ more) = ts_read.1 in
-      let taken_stand : drop from bytes ≡ ns ++ more = behind_entries (length log.lasts) log.threads bytes at from (ns ++ more) entries_stand in
-      let end : drop (log_end version (head_of_log log) (headers_of log.threads)) bytes ≡ more = behind_taken (length log.lasts) log.threads bytes at from more taken_stand in
-      let few : length log.lasts < 2 ^ 16 = let r = formed.range in omega (arith, r.words) in
+      let taken_stand : drop from bytes ≡ ns ++ more = behind_entries (length log.last_tags) log.threads bytes at from (ns ++ more) entries_stand in
+      let end : drop (log_end version (head_of_log log) (headers_of log.threads)) bytes ≡ more = behind_taken (length log.last_tags) log.threads bytes at from more taken_stand in
+      let few : length log.last_tags < 2 ^ 16 = let r = formed.range in omega (arith, r.words) in
       let reach0 : 51 ≤ length bytes = head_there version bytes (head_of_log log) h.head in
       let reach1 = reach bytes 51 (header_len version * length log.threads) hs (ts ++ (es ++ (ns ++ more))) reach0 h.behind_it (length-headers version log.threads) in
-      let reach2 = reach bytes (lasts_place version (head_of_log log)) (4 * length log.lasts) ts (es ++ (ns ++ more)) reach1 hs_read.1 (length-tags log.lasts) in
+      let reach2 = reach bytes (last_tags_place version (head_of_log log)) (4 * length log.last_tags) ts (es ++ (ns ++ more)) reach1 hs_read.1 (length-tags log.last_tags) in
       let reach3 = reach bytes at (14 * header_entries (headers_of log.threads)) es (ns ++ more) reach2 entries_stand (length-all_entries log.threads ∙ ap (λ (n : ℕ). 14 * n) (entries_counted log.threads)) in
       let reach4 = reach bytes from (4 * header_taken (headers_of log.threads)) ns more reach3 taken_stand (length-all_taken log.threads ∙ ap (λ (n : ℕ). 4 * n) (taken_counted log.threads)) in
       record {
@@ -139,8 +139,8 @@ module _ (version : Version) (log : Log) (formed : IsWellFormed log) (numbers : 
         digest_is = h.digest;
         first = reach1;
         headers_read = hs_read.0;
-        lasts_read = ts_read.0;
-        threads_read = threads_again (length log.lasts) log.threads bytes at from (ns ++ more) more few (threads_readable version log formed numbers told) entries_stand taken_stand;
+        last_tags_read = ts_read.0;
+        threads_read = threads_again (length log.last_tags) log.threads bytes at from (ns ++ more) more few (threads_readable version log formed numbers told) entries_stand taken_stand;
         whole = omega (arith, reach4, ap length end, length-drop (log_end version (head_of_log log) (headers_of log.threads)) bytes);
       }
 
@@ -149,9 +149,9 @@ module _ (version : Version) (log : Log) (formed : IsWellFormed log) (numbers : 
   unfolding log_read body_in
   result =
       let r = read in
-      rw (r.front, reaches-again bytes _ r.first, r.headers_read, reaches-again bytes (log_end version (head_of_log log) (headers_of log.threads)) (omega (arith, r.whole)), r.lasts_read, r.threads_read)
+      rw (r.front, reaches-again bytes _ r.first, r.headers_read, reaches-again bytes (log_end version (head_of_log log) (headers_of log.threads)) (omega (arith, r.whole)), r.last_tags_read, r.threads_read)
       (ap (λ (d : List ℕ). cond (ltb (log_end version (head_of_log log) (headers_of log.threads)) (length bytes)) (Err (fault kind.Long (log_end version (head_of_log log) (headers_of log.threads))))
-      (Ok (record { digest = d; limits = log.limits; threads = log.threads; lasts = log.lasts }))) r.digest_is)
+      (Ok (record { digest = d; limits = log.limits; threads = log.threads; last_tags = log.last_tags }))) r.digest_is)
 
 -- the text of a log is read as this log
 pub text_read : (version : Version) (bytes : List ℕ) (log : Log) → IsText version bytes log → log_read version bytes ≡ Ok log

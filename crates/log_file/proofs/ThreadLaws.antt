@@ -116,10 +116,10 @@ module _ (words : ℕ) (steps : List ℕ) (own : ℕ) (entries : List Entry) whe
 
 module _ (log : Log) (thread : ThreadLog) where
   -- entries that were read are those of a well-formed log
-  pub entries_formed : AreNext (length log.lasts) (steps_in log) thread.steps thread.entries → (entry : Entry) → Contains thread.entries entry → IsEntryOf log thread entry
+  pub entries_formed : AreNext (length log.last_tags) (steps_in log) thread.steps thread.entries → (entry : Entry) → Contains thread.entries entry → IsEntryOf log thread entry
   entries_formed all entry (i, lt, is) =
-      let next = next_at (length log.lasts) (steps_in log) thread.steps thread.entries all i entry lt in
-      let P : Entry → Type 0 = λ e. IsNext (length log.lasts) (steps_in log) thread.steps (take i thread.entries) e in
+      let next = next_at (length log.last_tags) (steps_in log) thread.steps thread.entries all i entry lt in
+      let P : Entry → Type 0 = λ e. IsNext (length log.last_tags) (steps_in log) thread.steps (take i thread.entries) e in
       let own : P entry = subst P is next in
       record {
         low = omega (arith, own.order);
@@ -130,8 +130,8 @@ module _ (log : Log) (thread : ThreadLog) where
       }
 
   -- and those of a well-formed log are read
-  pub entries_next : IsWellFormed log → IsThreadOf log thread → AreNext (length log.lasts) (steps_in log) thread.steps thread.entries
-  entries_next formed t = AllAfter-from (IsNext (length log.lasts) (steps_in log) thread.steps) [] thread.entries each
+  pub entries_next : IsWellFormed log → IsThreadOf log thread → AreNext (length log.last_tags) (steps_in log) thread.steps thread.entries
+  entries_next formed t = AllAfter-from (IsNext (length log.last_tags) (steps_in log) thread.steps) [] thread.entries each
     where
       es : List Entry
       es = thread.entries
@@ -164,7 +164,7 @@ module _ (log : Log) (thread : ThreadLog) where
           let less = t.apart k i d there.0 lt (ap (λ (x : Entry). x.word) (sym there.1) ∙ word) in
           subst (λ (x : Entry). x.last < e.first) (sym there.1) less))
 
-      each : (i : ℕ) (d : Entry) → i < length es → IsNext (length log.lasts) (steps_in log) thread.steps ([] ++ take i es) (get_or es i d)
+      each : (i : ℕ) (d : Entry) → i < length es → IsNext (length log.last_tags) (steps_in log) thread.steps ([] ++ take i es) (get_or es i d)
       each i d lt =
           let own = t.each (get_or es i d) (among i d lt) in
           record {

@@ -3,8 +3,9 @@ use Rattle.std.specs.Prelude.{ℕ, ◌+◌, ◌-◌, ◌*◌, ◌%◌, ◌^◌, 
 use Rattle.std.specs.Option.{ok_or}
 use Rattle.std.specs.List.{list_any, starts_with, sum_by}
 use Rattle.std.specs.Int.{w16, w32, from_be_bytes}
-use Rattle.light_base.specs.Tags.{writer_of}
+use Rattle.light_base.specs.Tags.{step_end, writer_of}
 use Rattle.light_base.specs.declared.tag.Tag.{Tag}
+use Rattle.replay_model.specs.Bounds.{most_entries, most_inputs}
 use Rattle.replay_model.specs.declared.End.{End}
 use Rattle.replay_model.specs.declared.End.TheVariants.{Halted, InstrSpent, BadAddress, StepsSpent, EntriesFull, OutputFull, InputEmpty}
 use Rattle.replay_model.specs.declared.Entry.{Entry}
@@ -15,7 +16,7 @@ use Rattle.machine.specs.Faults.{are_counts}
 use Rattle.machine.specs.Reading.{GivesUnless, ◌>>=◌, numbers_at}
 pub use Rattle.log_file.specs.declared.heads.Head.{Head}
 pub use Rattle.log_file.specs.declared.heads.Header.{Header}
-use Rattle.log_file.specs.Versions.{Version, magic_of, header_len, last_end}
+use Rattle.log_file.specs.Versions.{Version, magic_of, head_len, header_len, last_end}
 use Rattle.log_file.specs.declared.version.Version.TheVariants.{One, Two}
 use Rattle.log_file.specs.LogFaults.{LogFault, fault, out_of_memory}
 use Rattle.log_file.specs.declared.log_fault.LogKind.TheVariants as kind
@@ -43,11 +44,11 @@ abbrev pub limits_in : List ℕ → Limits
 limits_in bytes = record { steps = number_at bytes 39; instr = number_at bytes 43; entries = number_at bytes 47 }
 
 abbrev pub are_limits : Limits → Bool
-are_limits limits = nat_lt limits.steps (2 ^ 28) && nat_le limits.instr (2 ^ 30) && nat_le limits.entries 16384
+are_limits limits = nat_lt limits.steps step_end && nat_le limits.instr (2 ^ 30) && nat_le limits.entries most_entries
 
 unfoldable pub head_in : Version → List ℕ → Result Head LogFault
 head_in version bytes = do
-  reaches bytes 51
+  reaches bytes head_len
   if not (starts_with nat_eq bytes (magic_of version)) then Err (fault kind.Magic 0)
       else if not (are_counts (slice_index bytes 4) (half_at bytes 5) && are_limits (limits_in bytes)) then Err (fault kind.Counts 4)
       else Ok (record { threads = slice_index bytes 4; words = half_at bytes 5; limits = limits_in bytes })
@@ -80,17 +81,23 @@ taken_at Two bytes at = number_at bytes (at + 17)
 
 -- whether the counts of a header pass the limits
 abbrev pub is_over : Limits → Header → Bool
-is_over limits h = nat_lt limits.steps h.steps || nat_lt limits.instr h.instr || nat_lt limits.entries h.entries || nat_lt 65536 h.taken
+is_over limits h = nat_lt limits.steps h.steps || nat_lt limits.instr h.instr || nat_lt limits.entries h.entries || nat_lt most_inputs h.taken
 
 -- no header counts more entries or input numbers than this
 pub record IsSmall (h : Header) : Type 0 where
-  pub entries : h.entries ≤ 16384
-  pub taken : h.taken ≤ 65536
+  pub entries : h.entries ≤ most_entries
+  pub taken : h.taken ≤ most_inputs
 
 -- the counts of the header at a place
 abbrev pub counts_at : Version → List ℕ → ℕ → Header
 counts_at version bytes at =
-    record { end = Halted; steps = number_at bytes (at + 5); instr = number_at bytes (at + 9); entries = number_at bytes (at + 13); taken = taken_at version bytes at }
+    record {
+      end = Halted;
+      steps = number_at bytes (at + 5);
+      instr = number_at bytes (at + 9);
+      entries = number_at bytes (at + 13);
+      taken = taken_at version bytes at;
+    }
 
 -- the header at a place that has these counts, and an end with this number and address
 unfoldable pub header_of : Version → Head → ℕ → ℕ → ℕ → Header → Result Header LogFault
@@ -105,7 +112,7 @@ header_at version head bytes at = header_of version head at (slice_index bytes a
 
 -- the header behind these, and those of all threads
 abbrev pub next_header : Version → Head → List ℕ → List Header → Result Header LogFault
-next_header version head bytes before = header_at version head bytes (51 + header_len version * length before)
+next_header version head bytes before = header_at version head bytes (head_len + header_len version * length before)
 
 abbrev pub headers_in : Version → Head → List ℕ → Result (List Header) LogFault
 headers_in version head bytes = rows (next_header version head bytes) head.threads
@@ -119,7 +126,7 @@ is_taken steps (Some event) = nat_lt 0 event.step && nat_le event.step (slice_in
 
 -- whether a number is that of a tag: both its parts are 0, or neither is
 abbrev pub is_tag : ℕ → Bool
-is_tag bits = nat_eq bits 0 || (nat_le (2 ^ 28) bits && nat_lt 0 (bits % 2 ^ 28))
+is_tag bits = nat_eq bits 0 || (nat_le step_end bits && nat_lt 0 (bits % step_end))
 
 -- the tag with this number, where it is one of the log
 unfoldable pub tag_in : List ℕ → ℕ → Option Tag
@@ -132,8 +139,8 @@ tag_at steps bytes at = ok_or (tag_in steps (number_at bytes at)) (fault kind.So
 abbrev pub next_last : List ℕ → List ℕ → ℕ → List Tag → Result Tag LogFault
 next_last steps bytes at before = tag_at steps bytes (at + 4 * length before)
 
-abbrev pub lasts_in : List ℕ → List ℕ → ℕ → ℕ → Result (List Tag) LogFault
-lasts_in steps bytes at words = rows (next_last steps bytes at) words
+abbrev pub last_tags_in : List ℕ → List ℕ → ℕ → ℕ → Result (List Tag) LogFault
+last_tags_in steps bytes at words = rows (next_last steps bytes at) words
 
 -- ---- entries
 
@@ -158,7 +165,8 @@ entry_of words steps own at before word bits first last =
           else Ok (record { word = word; source = source; first = first; last = last })
 
 abbrev pub entry_at : ℕ → List ℕ → ℕ → List ℕ → ℕ → List Entry → Result Entry LogFault
-entry_at words steps own bytes at before = entry_of words steps own at before (half_at bytes at) (number_at bytes (at + 2)) (number_at bytes (at + 6)) (number_at bytes (at + 10))
+entry_at words steps own bytes at before =
+    entry_of words steps own at before (half_at bytes at) (number_at bytes (at + 2)) (number_at bytes (at + 6)) (number_at bytes (at + 10))
 
 -- the entry behind these of a thread, whose entries begin at a place, and so many of them
 abbrev pub next_entry : ℕ → List ℕ → ℕ → List ℕ → ℕ → List Entry → Result Entry LogFault
@@ -198,11 +206,11 @@ abbrev pub header_taken : List Header → ℕ
 header_taken headers = sum_by (λ (h : Header). h.taken) headers
 
 -- where the last tags begin, the entries, and the input numbers, and where the log ends
-abbrev pub lasts_place : Version → Head → ℕ
-lasts_place version head = 51 + header_len version * head.threads
+abbrev pub last_tags_place : Version → Head → ℕ
+last_tags_place version head = head_len + header_len version * head.threads
 
 abbrev pub entries_place : Version → Head → ℕ
-entries_place version head = lasts_place version head + 4 * head.words
+entries_place version head = last_tags_place version head + 4 * head.words
 
 abbrev pub taken_place : Version → Head → List Header → ℕ
 taken_place version head headers = entries_place version head + 14 * header_entries headers
@@ -210,19 +218,23 @@ taken_place version head headers = entries_place version head + 14 * header_entr
 abbrev pub log_end : Version → Head → List Header → ℕ
 log_end version head headers = taken_place version head headers + 4 * header_taken headers
 
+-- the log with the digest that these bytes have
+abbrev pub log_with : List ℕ → Limits → List ThreadLog → List Tag → Log
+log_with bytes limits threads last_tags = record { digest = slice_range bytes 7 39; limits = limits; threads = threads; last_tags = last_tags }
+
 -- the log that the bytes behind the headers tell, with nothing behind it
 unfoldable pub body_in : Version → Head → List Header → List ℕ → Result Log LogFault
 body_in version head headers bytes = do
   reaches bytes (log_end version head headers)
-  lasts ← lasts_in (steps_of headers) bytes (lasts_place version head) head.words
+  last_tags ← last_tags_in (steps_of headers) bytes (last_tags_place version head) head.words
   threads ← threads_in head.words headers bytes (entries_place version head) (taken_place version head headers)
   if nat_lt (log_end version head headers) (length bytes) then Err (fault kind.Long (log_end version head headers))
-      else Ok (record { digest = slice_range bytes 7 39; limits = head.limits; threads = threads; lasts = lasts })
+      else Ok (log_with bytes head.limits threads last_tags)
 
 -- the log that the bytes tell in this version, or the first fault
 unfoldable pub log_read : Version → List ℕ → Result Log LogFault
 log_read version bytes = do
   head ← head_in version bytes
-  reaches bytes (lasts_place version head)
+  reaches bytes (last_tags_place version head)
   headers ← headers_in version head bytes
   body_in version head headers bytes

@@ -83,3 +83,8 @@ schedule_read bytes = do
 -- what a function returned, seen by view, is what reading gives, unless memory ran out
 abbrev pub Gives : {X Y : Type 0} → (X → Y) → Result X SchedFault → Result Y SchedFault → Type 0
 Gives view r read = GivesUnless out_of_memory view r read
+
+-- bytes that stand behind the text of an order are too many, from the text's end on
+abbrev pub MoreIsTooLong : Type 0
+MoreIsTooLong = (bytes more : List ℕ) (order : List Event) → IsSchedule bytes order → 0 < length more →
+    schedule_read (bytes ++ more) ≡ Err (fault kind.Long (length bytes))

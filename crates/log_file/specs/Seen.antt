@@ -21,5 +21,7 @@ pub record IsNumbered (tag : Tag) : Type 0 where
 -- the pairs and the ends are those of the entries: a pair is found where an entry has it, and a word's end is the greatest last of its entries
 pub record IsKept (seen : Seen) : Type 0 where
   pub numbered : All (λ (entry : Entry). IsNumbered entry.source) seen.entries.items
-  pub pairs : (word : ℕ) (source : Tag) → IsNumbered source → contains nat_eq seen.pairs (pair_of word source) ≡ list_any (is_entry_for word source) seen.entries.items
-  pub ends : (word step : ℕ) → 0 < step → word < length seen.ends.items → nat_le step (slice_index seen.ends.items word) ≡ list_any (ends_late word step) seen.entries.items
+  pub pairs : (word : ℕ) (source : Tag) → IsNumbered source →
+      contains nat_eq seen.pairs (pair_of word source) ≡ list_any (is_entry_for word source) seen.entries.items
+  pub ends : (word step : ℕ) → 0 < step → word < length seen.ends.items →
+      nat_le step (slice_index seen.ends.items word) ≡ list_any (ends_late word step) seen.entries.items

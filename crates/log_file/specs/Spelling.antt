@@ -9,7 +9,7 @@ use Rattle.replay_model.specs.declared.End.TheVariants.{Halted, InstrSpent, BadA
 use Rattle.replay_model.specs.declared.Entry.{Entry}
 use Rattle.replay_model.specs.Logs.{Limits, ThreadLog, Log}
 use Rattle.replay_model.specs.WellFormed.{IsWellFormed}
-use Rattle.log_file.specs.Versions.{Version, magic_of, CanTell}
+use Rattle.log_file.specs.Versions.{Version, magic_of, head_len, header_len, CanTell}
 use Rattle.log_file.specs.declared.version.Version.TheVariants.{One, Two}
 
 -- the number of an end
@@ -43,7 +43,8 @@ count_bytes Two t = to_be_bytes w32 (length t.taken)
 -- how a thread ended, how far it came, how many entries it has, and how many input numbers it took
 abbrev pub header_bytes : Version → ThreadLog → List ℕ
 header_bytes version t =
-    code_of_end t.end ∷ [] ++ to_be_bytes w32 (address_of_end t.end) ++ to_be_bytes w32 t.steps ++ to_be_bytes w32 t.instr ++ to_be_bytes w32 (length t.entries) ++ count_bytes version t
+    code_of_end t.end ∷ [] ++ to_be_bytes w32 (address_of_end t.end) ++ to_be_bytes w32 t.steps ++ to_be_bytes w32 t.instr ++
+    to_be_bytes w32 (length t.entries) ++ count_bytes version t
 
 abbrev pub tag_bytes : Tag → List ℕ
 tag_bytes writer = to_be_bytes w32 (bits_of writer)
@@ -59,12 +60,13 @@ taken_bytes t = flat_map (to_be_bytes w32) t.taken
 
 -- the numbers of threads and of words, the digest and the limits, behind the first four bytes
 unfoldable pub head_bytes : Version → Log → List ℕ
-head_bytes version log = magic_of version ++ length log.threads ∷ [] ++ to_be_bytes w16 (length log.lasts) ++ log.digest ++ limits_bytes log.limits
+head_bytes version log = magic_of version ++ length log.threads ∷ [] ++ to_be_bytes w16 (length log.last_tags) ++ log.digest ++ limits_bytes log.limits
 
 -- the head, a header for each thread, the last tag of each word, the entries, thread after thread, and so the input numbers
 unfoldable pub spelling_in : Version → Log → List ℕ
 spelling_in version log =
-    head_bytes version log ++ flat_map (header_bytes version) log.threads ++ flat_map tag_bytes log.lasts ++ flat_map entries_bytes log.threads ++ flat_map taken_bytes log.threads
+    head_bytes version log ++ flat_map (header_bytes version) log.threads ++ flat_map tag_bytes log.last_tags ++
+    flat_map entries_bytes log.threads ++ flat_map taken_bytes log.threads
 
 -- the bytes of a log today
 abbrev pub spelling : Log → List ℕ
@@ -80,7 +82,7 @@ taken_count threads = sum_by (λ (t : ThreadLog). length t.taken) threads
 
 -- how many bytes a log has today
 abbrev pub text_len : Log → ℕ
-text_len log = 51 + 21 * length log.threads + 4 * length log.lasts + 14 * entry_count log.threads + 4 * taken_count log.threads
+text_len log = head_len + header_len Two * length log.threads + 4 * length log.last_tags + 14 * entry_count log.threads + 4 * taken_count log.threads
 
 -- the numbers of a log fit the bytes that stand for them
 pub record HasNumbers (log : Log) : Type 0 where

@@ -10,6 +10,10 @@ abbrev pub magic_of : Version → List ℕ
 magic_of One = codes "LLG1"
 magic_of Two = codes "LLG2"
 
+-- how many bytes stand before the headers: the first four, the numbers of threads and of words, the digest and the limits
+abbrev pub head_len : ℕ
+head_len = 51
+
 -- how many bytes the header of a thread has
 abbrev pub header_len : Version → ℕ
 header_len One = 17

@@ -1,16 +1,21 @@
 // What stands before the entries of a log: its head and a header for each thread.
 ghost use Rattle.std.specs.Prelude.{◌≡◌, ◌^◌, ◌+◌, ◌*◌, ◌<◌, ◌≤◌, if◌then◌else◌, Some, None, All, length, IfOk, OnOk};
 ghost use Rattle.std.specs.Bool.{OnFalse};
+ghost use Rattle.replay_model.specs.Bounds.{most_entries, most_inputs};
 ghost use Rattle.machine.specs.Faults.{are_counts};
-ghost use Rattle.log_file.specs.Versions.{header_len};
-ghost use Rattle.log_file.specs.LogReading.{Gives, reaches, are_limits, limits_in, head_in, plain_end, end_in, taken_at, is_over, header_at, headers_in, lasts_place, IsSmall};
+ghost use Rattle.log_file.specs.Versions.{head_len, header_len};
+ghost use Rattle.log_file.specs.LogReading.{Gives, reaches, are_limits, limits_in, head_in, plain_end, end_in, taken_at, is_over};
+ghost use Rattle.log_file.specs.LogReading.{header_at, headers_in, last_tags_place, IsSmall};
 
 use crate::log_fault::{LogFault, LogKind};
 use crate::numbers::{half_at, number_at};
 use crate::version::Version;
-use machine::Limits;
+use machine::{Limits, MOST_INPUTS};
 use replay_model::End;
 use std::alloc::Global;
+
+/// How many bytes stand before the headers.
+pub(crate) const HEAD_LEN: usize = 51;
 
 /// The numbers of threads and of words of a log, and its limits.
 #[derive(Clone, Copy, Drop)]
@@ -53,7 +58,7 @@ fn are_counts(threads: usize, words: usize) -> bool
 // The limits in a head that is there.
 #[tactic(auto, using(crate::proofs::HeadTests::limits_given))]
 fn limits_in(bytes: &[u8]) -> Option<Limits>
-    requires { 51 ≤ length bytes.now }
+    requires { head_len ≤ length bytes.now }
     ensures { result ≡ (if are_limits (limits_in bytes.now) then Some (limits_in bytes.now) else None) }
 {
     Limits::new(
@@ -70,9 +75,9 @@ pub(crate) fn head_of(version: Version, bytes: &[u8]) -> Result<Head, LogFault>
     ensures value { result ≡ head_in version bytes.now }
     ensures threads { IfOk result (λ head. head.threads ≤ 15) }
     ensures words { IfOk result (λ head. head.words ≤ 4096) }
-    ensures there { OnOk result (51 ≤ length bytes.now) }
+    ensures there { OnOk result (head_len ≤ length bytes.now) }
 {
-    reaches(bytes, 51)?;
+    reaches(bytes, HEAD_LEN)?;
     if !bytes.starts_with(&version.magic()) {
         return Err(LogFault::new(LogKind::Magic, 0));
     }
@@ -138,13 +143,13 @@ fn taken_at(version: Version, bytes: &[u8], at: usize) -> u32
 // Whether a count of a header passes its limit.
 fn is_over(limits: &Limits, header: &Header) -> bool
     ensures value { result ≡ is_over limits.now header.now }
-    ensures entries { OnFalse result (header.now.entries ≤ 16384) }
-    ensures taken { OnFalse result (header.now.taken ≤ 65536) }
+    ensures entries { OnFalse result (header.now.entries ≤ most_entries) }
+    ensures taken { OnFalse result (header.now.taken ≤ most_inputs) }
 {
     header.steps > limits.steps()
         || header.instr > limits.instr()
         || header.entries > limits.entries()
-        || header.taken > 65_536
+        || header.taken as usize > MOST_INPUTS
 }
 
 // The header at a place.
@@ -184,14 +189,19 @@ pub(crate) fn headers_of(
     bytes: &[u8],
 ) -> Result<Vec<Header>, LogFault>
     requires few { length bytes.now < 2 ^ 32 }
-    requires there { lasts_place version head.now ≤ length bytes.now }
+    requires there { last_tags_place version head.now ≤ length bytes.now }
     ensures value { Gives (λ headers. headers.items) result (headers_in version head.now bytes.now) }
     ensures count { IfOk result (λ headers. length headers.items ≡ head.now.threads) }
     ensures small { IfOk result (λ headers. All IsSmall headers.items) }
 {
     let mut headers = Vec::with_capacity(alloc, head.threads)?;
     for thread in 0..head.threads {
-        let header = header_at(version, head, bytes, 51 + version.header_len() * thread)?;
+        let header = header_at(
+            version,
+            head,
+            bytes,
+            HEAD_LEN + version.header_len() * thread,
+        )?;
         headers.push(header)?;
     }
     Ok(headers)

@@ -7,12 +7,14 @@ ghost use Rattle.log_file.specs.declared.log_fault.LogKind.TheVariants.{Memory, 
 ghost use Rattle.log_file.specs.LogFaults.{fault, out_of_memory};
 ghost use Rattle.log_file.specs.Spelling.{IsText};
 ghost use Rattle.log_file.specs.Seen.{IsKept};
-ghost use Rattle.log_file.specs.LogReading.{Gives, IsSmall, tag_in, entry_at, entries_at, lasts_in, thread_at, threads_in, steps_of, header_entries, header_taken, body_in, log_read};
+ghost use Rattle.log_file.specs.Versions.{head_len};
+ghost use Rattle.log_file.specs.LogReading.{Gives, IsSmall, tag_in, entry_at, entries_at, last_tags_in, thread_at, threads_in};
+ghost use Rattle.log_file.specs.LogReading.{steps_of, header_entries, header_taken, body_in, log_read, log_with};
 
 use crate::heads::{Head, Header, head_of, headers_of, reaches};
 use crate::log_fault::{LogFault, LogKind};
 use crate::numbers::{half_at, number_at};
-use crate::places::{entries_place, lasts_place, log_end, taken_place};
+use crate::places::{entries_place, last_tags_place, log_end, taken_place};
 use crate::seen::Seen;
 use crate::version::Version;
 use dep_log::{RunLog, ThreadLog};
@@ -44,7 +46,7 @@ fn tag_in(steps: &[u32], bits: u32) -> Option<Tag>
 }
 
 // The last tags of so many words, from a place on.
-fn lasts_of(
+fn last_tags_of(
     alloc: Global,
     steps: &[u32],
     bytes: &[u8],
@@ -53,17 +55,17 @@ fn lasts_of(
 ) -> Result<Vec<Tag>, LogFault>
     requires few { length bytes.now < 2 ^ 32 }
     requires there { at + 4 * words ≤ length bytes.now }
-    ensures { Gives (λ lasts. lasts.items) result (lasts_in steps.now bytes.now at words) }
+    ensures { Gives (λ last_tags. last_tags.items) result (last_tags_in steps.now bytes.now at words) }
 {
-    let mut lasts = Vec::with_capacity(alloc, words)?;
+    let mut last_tags = Vec::with_capacity(alloc, words)?;
     for word in 0..words {
         let place = at + 4 * word;
         match tag_in(steps, number_at(bytes, place)) {
-            Some(tag) => lasts.push(tag)?,
+            Some(tag) => last_tags.push(tag)?,
             None => return Err(LogFault::new(LogKind::Source, place)),
         }
     }
-    Ok(lasts)
+    Ok(last_tags)
 }
 
 // The entry at a place, of a thread that took `own` steps, after those that were seen of it.
@@ -205,12 +207,18 @@ fn body_of(
     requires words { head.now.words ≤ 4096 }
     requires count { length headers.now ≡ head.now.threads }
     requires small { All IsSmall headers.now }
-    ensures { Gives (λ parts. record { digest = slice_range bytes.now 7 39; limits = head.now.limits; threads = parts.0.items; lasts = parts.1.items }) result (body_in version head.now headers.now bytes.now) }
+    ensures { Gives (λ parts. log_with bytes.now head.now.limits parts.0.items parts.1.items) result (body_in version head.now headers.now bytes.now) }
 {
     let end = log_end(version, head, headers);
     reaches(bytes, end)?;
     let steps = steps_of(alloc, headers)?;
-    let lasts = lasts_of(alloc, &steps, bytes, lasts_place(version, head), head.words)?;
+    let last_tags = last_tags_of(
+        alloc,
+        &steps,
+        bytes,
+        last_tags_place(version, head),
+        head.words,
+    )?;
     let threads = threads_of(
         alloc,
         head.words,
@@ -223,7 +231,7 @@ fn body_of(
     if end < bytes.len() {
         return Err(LogFault::new(LogKind::Long, end));
     }
-    Ok((threads, lasts))
+    Ok((threads, last_tags))
 }
 
 // The parts of the log that the bytes tell in a version: the limits, the threads' logs and the last tags.
@@ -234,19 +242,19 @@ fn parts_of(
     bytes: &[u8],
 ) -> Result<(Limits, Vec<ThreadLog>, Vec<Tag>), LogFault>
     requires { length bytes.now < 2 ^ 32 }
-    ensures read { Gives (λ parts. record { digest = slice_range bytes.now 7 39; limits = parts.0; threads = parts.1.items; lasts = parts.2.items }) result (log_read version bytes.now) }
-    ensures there { OnOk result (51 ≤ length bytes.now) }
+    ensures read { Gives (λ parts. log_with bytes.now parts.0 parts.1.items parts.2.items) result (log_read version bytes.now) }
+    ensures there { OnOk result (head_len ≤ length bytes.now) }
 {
     let head = head_of(version, bytes)?;
-    reaches(bytes, lasts_place(version, &head))?;
+    reaches(bytes, last_tags_place(version, &head))?;
     let headers = headers_of(alloc, version, &head, bytes)?;
-    let (threads, lasts) = body_of(alloc, version, &head, &headers, bytes)?;
-    Ok((head.limits, threads, lasts))
+    let (threads, last_tags) = body_of(alloc, version, &head, &headers, bytes)?;
+    Ok((head.limits, threads, last_tags))
 }
 
 // The digest in a log that is long enough to have one.
 fn digest_in(bytes: &[u8]) -> [u8; 32]
-    requires { 51 ≤ length bytes.now }
+    requires { head_len ≤ length bytes.now }
     ensures { result ≡ slice_range bytes.now 7 39 }
 {
     let mut digest = [0; 32];
@@ -262,8 +270,8 @@ fn read_as(alloc: Global, version: Version, bytes: &[u8]) -> Result<RunLog, LogF
     ensures refused { IfErr result (λ e. e.kind ≢ Memory → (log : Log) → ¬ IsText version bytes.now log) }
     ensures exact { Gives (λ log. log) result (log_read version bytes.now) }
 {
-    let (limits, threads, lasts) = parts_of(alloc, version, bytes)?;
-    Ok(RunLog::new(digest_in(bytes), limits, threads, lasts))
+    let (limits, threads, last_tags) = parts_of(alloc, version, bytes)?;
+    Ok(RunLog::new(digest_in(bytes), limits, threads, last_tags))
 }
 
 /// The log that the bytes tell, of which there are fewer than 2^32. An `Err` is the first fault, in the order in which a
@@ -303,5 +311,6 @@ pub fn read_old(alloc: Global, bytes: &[u8]) -> Result<RunLog, LogFault>
 pub fn log_text_law()
     ensures read { (bytes : List ℕ) (log : Log) → IsBytes bytes → (log_read Two bytes ≡ Ok log) ↔ IsText Two bytes log }
     ensures old { (bytes : List ℕ) (log : Log) → IsBytes bytes → (log_read One bytes ≡ Ok log) ↔ IsText One bytes log }
-    ensures long { (bytes more : List ℕ) (log : Log) → IsText Two bytes log → 0 < length more → log_read Two (bytes ++ more) ≡ Err (fault Long (length bytes)) }
+    ensures long { (bytes more : List ℕ) (log : Log) → IsText Two bytes log → 0 < length more →
+        log_read Two (bytes ++ more) ≡ Err (fault Long (length bytes)) }
 {}

@@ -1,8 +1,9 @@
 // Where the parts of a log begin.
 ghost use Rattle.std.specs.Prelude.{◌≡◌, ◌+◌, ◌*◌, ◌≤◌, All, length};
-ghost use Rattle.log_file.specs.LogReading.{IsSmall, lasts_place, entries_place, taken_place, log_end, header_entries, header_taken};
+ghost use Rattle.replay_model.specs.Bounds.{most_entries, most_inputs};
+ghost use Rattle.log_file.specs.LogReading.{IsSmall, last_tags_place, entries_place, taken_place, log_end, header_entries, header_taken};
 
-use crate::heads::{Head, Header};
+use crate::heads::{HEAD_LEN, Head, Header};
 use crate::version::Version;
 
 // How many entries the headers count.
@@ -10,7 +11,7 @@ fn entries_count(headers: &[Header]) -> usize
     requires few { length headers.now ≤ 15 }
     requires small { All IsSmall headers.now }
     ensures value { result ≡ header_entries headers.now }
-    ensures most { result ≤ 16384 * length headers.now }
+    ensures most { result ≤ most_entries * length headers.now }
 {
     let mut count = 0;
     for header in headers {
@@ -24,7 +25,7 @@ fn taken_count(headers: &[Header]) -> usize
     requires few { length headers.now ≤ 15 }
     requires small { All IsSmall headers.now }
     ensures value { result ≡ header_taken headers.now }
-    ensures most { result ≤ 65536 * length headers.now }
+    ensures most { result ≤ most_inputs * length headers.now }
 {
     let mut count = 0;
     for header in headers {
@@ -34,12 +35,12 @@ fn taken_count(headers: &[Header]) -> usize
 }
 
 // Where the last tags begin.
-pub(crate) fn lasts_place(version: Version, head: &Head) -> usize
+pub(crate) fn last_tags_place(version: Version, head: &Head) -> usize
     requires { head.now.threads ≤ 15 }
-    ensures value { result ≡ lasts_place version head.now }
+    ensures value { result ≡ last_tags_place version head.now }
     ensures most { result ≤ 366 }
 {
-    51 + version.header_len() * head.threads
+    HEAD_LEN + version.header_len() * head.threads
 }
 
 // Where the entries begin.
@@ -49,7 +50,7 @@ pub(crate) fn entries_place(version: Version, head: &Head) -> usize
     ensures value { result ≡ entries_place version head.now }
     ensures most { result ≤ 16750 }
 {
-    lasts_place(version, head) + 4 * head.words
+    last_tags_place(version, head) + 4 * head.words
 }
 
 // Where the input numbers begin.

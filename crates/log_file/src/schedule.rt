@@ -1,9 +1,9 @@
 // Reading an order of events.
-ghost use Rattle.std.specs.Prelude.{◌≡◌, ◌≢◌, ◌↔◌, ℕ, ◌+◌, ◌*◌, ◌^◌, ◌<◌, ◌≤◌, List, ◌++◌, length, Ok, Err, IfOk, IfErr, OnOk, MatchResult};
+ghost use Rattle.std.specs.Prelude.{◌≡◌, ◌≢◌, ◌↔◌, ℕ, ◌+◌, ◌*◌, ◌^◌, ◌<◌, ◌≤◌, List, length, Ok, IfOk, IfErr, OnOk, MatchResult};
 ghost use Rattle.light_base.specs.Numbers.{IsBytes};
 ghost use Rattle.light_base.specs.declared.tag.Event.{Event};
-ghost use Rattle.log_file.specs.declared.sched_fault.SchedKind.TheVariants.{Memory, Long};
-ghost use Rattle.log_file.specs.Schedules.{Gives, IsSchedule, fault, out_of_memory, reaches, event_in, events_in, count_in, schedule_read};
+ghost use Rattle.log_file.specs.declared.sched_fault.SchedKind.TheVariants.{Memory};
+ghost use Rattle.log_file.specs.Schedules.{Gives, IsSchedule, MoreIsTooLong, out_of_memory, reaches, event_in, events_in, count_in, schedule_read};
 
 use crate::numbers::number_at;
 use crate::sched_fault::{SchedFault, SchedKind};
@@ -96,5 +96,5 @@ pub fn read_schedule(alloc: Global, bytes: &[u8]) -> Result<Vec<Event>, SchedFau
 /// long, from its end on.
 pub fn schedule_law()
     ensures read { (bytes : List ℕ) (order : List Event) → IsBytes bytes → (schedule_read bytes ≡ Ok order) ↔ IsSchedule bytes order }
-    ensures long { (bytes more : List ℕ) (order : List Event) → IsSchedule bytes order → 0 < length more → schedule_read (bytes ++ more) ≡ Err (fault Long (length bytes)) }
+    ensures long { MoreIsTooLong }
 {}

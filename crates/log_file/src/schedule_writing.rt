@@ -1,7 +1,7 @@
 // Writing an order of events.
-ghost use Rattle.std.specs.Prelude.{◌≡◌, ◌^◌, ◌<◌, ◌++◌, All, length, IfOk, OnOk};
+ghost use Rattle.std.specs.Prelude.{◌≡◌, ◌<◌, ◌++◌, All, length, IfOk, OnOk};
 ghost use Rattle.std.specs.List.{flat_map};
-ghost use Rattle.light_base.specs.Tags.{HasTag};
+ghost use Rattle.light_base.specs.Tags.{HasTag, step_end};
 ghost use Rattle.log_file.specs.Schedules.{IsSchedule, event_bytes};
 
 use light_base::{Event, Memory, put_u32};
@@ -11,7 +11,7 @@ use std::alloc::Global;
 /// are its text, and the text of an order is read as this order.
 pub fn write_schedule(alloc: Global, order: &[Event]) -> Result<Vec<u8>, Memory>
     requires events { All HasTag order.now }
-    requires few { length order.now < 2 ^ 28 }
+    requires few { length order.now < step_end }
     ensures { IfOk result (λ bytes. IsSchedule bytes.items order.now) }
 {
     let mut out = Vec::with_capacity(alloc, 8 + 4 * order.len())?;

@@ -2,9 +2,12 @@
 ghost use Rattle.std.specs.Prelude.{◌≡◌, ◌+◌, ◌*◌, ◌^◌, ◌<◌, ◌≤◌, ◌++◌, All, IfOk, OnOk, length};
 ghost use Rattle.std.specs.List.{flat_map};
 ghost use Rattle.std.specs.Int.{w32, to_be_bytes};
+ghost use Rattle.replay_model.specs.Bounds.{most_entries, most_inputs};
 ghost use Rattle.log_file.specs.declared.version.Version.TheVariants.{Two};
-ghost use Rattle.log_file.specs.Spelling.{address_of_end, code_of_end, entries_bytes, entry_count, entry_bytes, head_bytes, header_bytes, limits_bytes, spelling, tag_bytes, taken_bytes, taken_count, text_len, IsText};
+ghost use Rattle.log_file.specs.Spelling.{address_of_end, code_of_end, entries_bytes, entry_count, entry_bytes, head_bytes};
+ghost use Rattle.log_file.specs.Spelling.{header_bytes, limits_bytes, spelling, tag_bytes, taken_bytes, taken_count, text_len, IsText};
 
+use crate::heads::HEAD_LEN;
 use crate::version::Version;
 use dep_log::{Entry, RunLog, ThreadLog};
 use light_base::{Memory, Tag, put_u16, put_u32};
@@ -32,7 +35,8 @@ fn text_len(log: &RunLog) -> usize
     ensures { result ≡ text_len log.now }
 {
     let threads = log.threads();
-    51 + 21 * threads.len()
+    HEAD_LEN
+        + Version::Two.header_len() * threads.len()
         + 4 * log.finals().len()
         + 14 * entry_count(threads)
         + 4 * taken_count(threads)
@@ -41,9 +45,9 @@ fn text_len(log: &RunLog) -> usize
 // How many entries all threads have.
 fn entry_count(threads: &[ThreadLog]) -> usize
     requires few { length threads.now ≤ 15 }
-    requires short { All (λ thread. length thread.entries ≤ 16384) threads.now }
+    requires short { All (λ thread. length thread.entries ≤ most_entries) threads.now }
     ensures value { result ≡ entry_count threads.now }
-    ensures bound { result ≤ 16384 * length threads.now }
+    ensures bound { result ≤ most_entries * length threads.now }
 {
     let mut count = 0;
     for thread in threads {
@@ -55,9 +59,9 @@ fn entry_count(threads: &[ThreadLog]) -> usize
 // How many input numbers all threads took.
 fn taken_count(threads: &[ThreadLog]) -> usize
     requires few { length threads.now ≤ 15 }
-    requires short { All (λ thread. length thread.taken ≤ 65536) threads.now }
+    requires short { All (λ thread. length thread.taken ≤ most_inputs) threads.now }
     ensures value { result ≡ taken_count threads.now }
-    ensures bound { result ≤ 65536 * length threads.now }
+    ensures bound { result ≤ most_inputs * length threads.now }
 {
     let mut count = 0;
     for thread in threads {
@@ -89,7 +93,7 @@ fn put_digest(out: &mut Vec<u8>, digest: &[u8]) -> Result<(), Memory>
 
 #[tactic(auto, unfolding(crate::specs::Spelling::limits_bytes))]
 fn put_limits(out: &mut Vec<u8>, limits: &Limits) -> Result<(), Memory>
-    ensures { OnOk result (out.new.items ≡ out.old.items ++ limits_bytes (record { steps = limits.now.steps; instr = limits.now.instr; entries = limits.now.entries })) }
+    ensures { OnOk result (out.new.items ≡ out.old.items ++ limits_bytes limits.now) }
 {
     put_u32(out, limits.steps())?;
     put_u32(out, limits.instr())?;
@@ -97,8 +101,8 @@ fn put_limits(out: &mut Vec<u8>, limits: &Limits) -> Result<(), Memory>
 }
 
 fn put_headers(out: &mut Vec<u8>, threads: &[ThreadLog]) -> Result<(), Memory>
-    requires entries { All (λ thread. length thread.entries ≤ 16384) threads.now }
-    requires taken { All (λ thread. length thread.taken ≤ 65536) threads.now }
+    requires entries { All (λ thread. length thread.entries ≤ most_entries) threads.now }
+    requires taken { All (λ thread. length thread.taken ≤ most_inputs) threads.now }
     ensures written { OnOk result (out.new.items ≡ out.old.items ++ flat_map (header_bytes Two) threads.now) }
     ensures addresses { OnOk result (All (λ thread. address_of_end thread.end < 2 ^ 32) threads.now) }
 {
@@ -109,8 +113,8 @@ fn put_headers(out: &mut Vec<u8>, threads: &[ThreadLog]) -> Result<(), Memory>
 }
 
 fn put_header(out: &mut Vec<u8>, thread: &ThreadLog) -> Result<(), Memory>
-    requires entries { length thread.now.entries ≤ 16384 }
-    requires taken { length thread.now.taken ≤ 65536 }
+    requires entries { length thread.now.entries ≤ most_entries }
+    requires taken { length thread.now.taken ≤ most_inputs }
     ensures written { OnOk result (out.new.items ≡ out.old.items ++ header_bytes Two thread.now) }
     ensures address { OnOk result (address_of_end thread.now.end < 2 ^ 32) }
 {

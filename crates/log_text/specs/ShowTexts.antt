@@ -69,8 +69,8 @@ last_lines w (tag ∷ tags) = last_line w tag ++ last_lines (w + 1) tags
 
 -- the program, the sizes and the limits
 unfoldable pub head_text : Log → List ℕ
-head_text log = program_line log.digest ++ words_line (length log.lasts) ++ limits_line log.limits
+head_text log = program_line log.digest ++ words_line (length log.last_tags) ++ limits_line log.limits
 
 -- a log as text
 unfoldable pub show : Log → List ℕ
-show log = head_text log ++ threads_text 0 log.threads ++ last_lines 0 log.lasts
+show log = head_text log ++ threads_text 0 log.threads ++ last_lines 0 log.last_tags

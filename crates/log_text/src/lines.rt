@@ -1,8 +1,8 @@
 // One function for each kind of line. After `Memory` the text has some front of the line more.
 ghost use Rattle.std.specs.Prelude.{◌≡◌, ◌++◌, OnOk, length};
 ghost use Rattle.std.specs.List.{flat_map};
-ghost use Rattle.replay_model.specs.Logs.{Limits};
-ghost use Rattle.log_text.specs.ShowTexts.{field, writer_text, program_line, words_line, limits_line, counts_text, thread_line, entry_line, input_line, last_line, last_lines};
+ghost use Rattle.log_text.specs.ShowTexts.{field, writer_text, program_line, words_line, limits_line, counts_text};
+ghost use Rattle.log_text.specs.ShowTexts.{thread_line, entry_line, input_line, last_line, last_lines};
 
 use dep_log::{Entry, ThreadLog};
 use light_base::{Memory, Tag, put_decimal};
@@ -57,7 +57,7 @@ pub fn put_words(text: &mut Vec<u8>, count: usize) -> Result<(), Memory>
 
 /// Appends the limits.
 pub fn put_limits(text: &mut Vec<u8>, limits: &Limits) -> Result<(), Memory>
-    ensures { OnOk result (text.new.items ≡ text.old.items ++ limits_line (record { steps = limits.now.steps; instr = limits.now.instr; entries = limits.now.entries })) }
+    ensures { OnOk result (text.new.items ≡ text.old.items ++ limits_line limits.now) }
 {
     put_field(text, b"limits ", u64::from(limits.steps()))?;
     put_field(text, b" ", u64::from(limits.instr()))?;
@@ -142,10 +142,10 @@ fn put_last(text: &mut Vec<u8>, word: usize, tag: Tag) -> Result<(), Memory>
 }
 
 /// Appends a line for each word that was written.
-pub fn put_lasts(text: &mut Vec<u8>, lasts: &[Tag]) -> Result<(), Memory>
-    ensures { OnOk result (text.new.items ≡ text.old.items ++ last_lines 0 lasts.now) }
+pub fn put_last_tags(text: &mut Vec<u8>, last_tags: &[Tag]) -> Result<(), Memory>
+    ensures { OnOk result (text.new.items ≡ text.old.items ++ last_lines 0 last_tags.now) }
 {
-    for (word, tag) in lasts.iter().enumerate() {
+    for (word, tag) in last_tags.iter().enumerate() {
         put_last(text, word, *tag)?;
     }
     Ok(())

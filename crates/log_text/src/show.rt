@@ -3,7 +3,7 @@ ghost use Rattle.std.specs.Prelude.{◌≡◌, ◌++◌, IfOk, OnOk};
 ghost use Rattle.log_text.specs.ShowTexts.{thread_text, threads_text, head_text, show};
 
 use crate::lines::{
-    put_entries, put_inputs, put_lasts, put_limits, put_program, put_thread, put_words,
+    put_entries, put_inputs, put_last_tags, put_limits, put_program, put_thread, put_words,
 };
 use dep_log::{RunLog, ThreadLog};
 use light_base::Memory;
@@ -47,6 +47,6 @@ pub fn show_text(alloc: Global, log: &RunLog) -> Result<Vec<u8>, Memory>
     let mut text = Vec::new(alloc);
     put_head(alloc, &mut text, log)?;
     put_logs(&mut text, log.threads())?;
-    put_lasts(&mut text, log.finals())?;
+    put_last_tags(&mut text, log.finals())?;
     Ok(text)
 }

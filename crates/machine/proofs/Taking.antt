@@ -256,5 +256,5 @@ fits_on_taken p limits inputs initial log runs fits =
       grounded = fits.grounded;
       logs = fits.logs ∙ logs_on_taken p limits inputs (taken_in log) 0 runs from_0;
       words = fits.words;
-      lasts = fits.lasts;
+      last_tags = fits.last_tags;
     }

@@ -7,8 +7,8 @@ use Rattle.replay_model.specs.declared.Want.{Want}
 use Rattle.machine.specs.declared.program.Instr.{Instr}
 use Rattle.machine.specs.declared.program.Op.{Op}
 use Rattle.machine.specs.declared.program.Op.TheVariants as op
-use Rattle.machine.specs.declared.cores.Turn.{Turn}
-use Rattle.machine.specs.declared.cores.Turn.TheVariants as turn
+use Rattle.machine.specs.declared.courses.Turn.{Turn}
+use Rattle.machine.specs.declared.courses.Turn.TheVariants as turn
 use Rattle.machine.specs.Programs.{LimitsValue}
 use Rattle.machine.specs.Cores.{State, comes_to, ran, register, run_on}
 use Rattle.machine.specs.Turns.{Turns}

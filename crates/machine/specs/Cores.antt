@@ -10,11 +10,12 @@ use Rattle.replay_model.specs.declared.End.TheVariants as end
 use Rattle.machine.specs.declared.cores.Expected.{Expected}
 use Rattle.machine.specs.declared.program.Instr.{Instr}
 use Rattle.machine.specs.declared.program.Op.{Op}
-use Rattle.machine.specs.Programs.{ProgramValue, LimitsValue, code_of}
+use Rattle.machine.specs.Programs.{ProgramValue, LimitsValue, code_of, most_steps, most_instr}
 use Rattle.machine.specs.Inputs.{most_inputs}
 use Rattle.machine.specs.declared.program.Op.TheVariants as op
 
--- what a thread is and has done: taken is how many numbers of its input list it has taken, pending is the memory step or end that it has come to, doing the instruction that wants it, and expected, between the two steps of a compare-exchange, the word and the tag that its load saw
+-- what a thread is and has done: taken is how many numbers of its input list it has taken, pending is the memory step or end that it has come to,
+-- doing the instruction that wants it, and expected, between the two steps of a compare-exchange, the word and the tag that its load saw
 pub record State : Type 0 where
   pub thread : ℕ
   pub registers : List ℕ
@@ -44,7 +45,18 @@ halt = record { op = op.Halt; a = 0; b = 0; c = 0; imm = 0 }
 
 -- the start of a thread
 abbrev pub first_state : ℕ → State
-first_state t = record { thread = t; registers = replicate 16 0; place = 0; output = []; steps = 0; instr = 0; taken = 0; doing = halt; expected = None; pending = None }
+first_state t = record {
+  thread = t;
+  registers = replicate 16 0;
+  place = 0;
+  output = [];
+  steps = 0;
+  instr = 0;
+  taken = 0;
+  doing = halt;
+  expected = None;
+  pending = None;
+}
 
 abbrev pub register : State → ℕ → ℕ
 register s r = slice_index s.registers r
@@ -95,7 +107,8 @@ abbrev pub is_cas : Op → Bool
 is_cas op.Cas = true
 is_cas _ = false
 
--- the end that comes before this instruction, if one does: the ends are looked at in this order; inputs is the thread's input list, and full says that its log has as many entries as it may have
+-- the end that comes before this instruction, if one does: the ends are looked at in this order; inputs is the thread's input list, and full says
+-- that its log has as many entries as it may have
 abbrev pub end_before : ℕ → LimitsValue → List ℕ → Bool → State → Instr → Option End
 end_before words limits inputs full s i =
     if is_halt i.op then Some end.Halted
@@ -197,6 +210,10 @@ run_local (suc n) code words limits inputs full s =
 unfoldable pub run_on : List Instr → ℕ → LimitsValue → List ℕ → Bool → State → State
 run_on code words limits inputs full s = run_local ((limits.instr - s.instr) + 1) code words limits inputs full s
 
+-- the local instructions of a thread of a program
+abbrev pub run_of : ProgramValue → LimitsValue → List ℕ → Bool → State → State
+run_of p limits inputs full s = run_on (code_of p s.thread) (length p.words) limits inputs full s
+
 -- the state itself where something is pending, and else the next one
 abbrev pub if_none : Option Want → State → State → State
 if_none None s next = next
@@ -212,7 +229,7 @@ second_wanted limits full s e =
 -- the thread goes on: within a compare-exchange to its second step, and else by its local instructions
 abbrev pub resumed : ProgramValue → LimitsValue → List ℕ → Bool → State → Option Expected → State
 resumed p limits inputs full s (Some e) = record s { pending = Some (second_wanted limits full s e) }
-resumed p limits inputs full s None = run_on (code_of p s.thread) (length p.words) limits inputs full s
+resumed p limits inputs full s None = run_of p limits inputs full s
 
 -- the next memory step or end of the thread is pending
 unfoldable pub settled : ProgramValue → LimitsValue → List ℕ → Bool → State → State
@@ -293,12 +310,12 @@ report_of s = record { end = end_or_halted (end_of (pending_want s)); steps = s.
 -- a pending memory step leaves room for itself in the counts and in the code, and its instruction names registers
 abbrev pub HasRoom : Option Want → State → Type 0
 HasRoom None s = Unit {0}
-HasRoom (Some wanted) s = has_ended wanted ≡ false → (s.steps < 268435455) × (s.instr < 1073741824) × (s.place < 4096) × (s.doing.a < 16) × (s.doing.c < 16)
+HasRoom (Some wanted) s = has_ended wanted ≡ false → (s.steps < most_steps) × (s.instr < most_instr) × (s.place < 4096) × (s.doing.a < 16) × (s.doing.c < 16)
 
 -- so does a compare-exchange whose second step is left
 abbrev pub HasRest : Option Expected → State → Type 0
 HasRest None s = Unit {0}
-HasRest (Some e) s = (s.instr < 1073741824) × (s.place < 4096) × (s.doing.a < 16) × (s.doing.c < 16)
+HasRest (Some e) s = (s.instr < most_instr) × (s.place < 4096) × (s.doing.a < 16) × (s.doing.c < 16)
 
 -- what holds of every state that a thread comes to
 pub record IsState (s : State) : Type 0 where
@@ -306,8 +323,8 @@ pub record IsState (s : State) : Type 0 where
   pub registers : length s.registers ≡ 16
   pub place : s.place ≤ 4096
   pub output : length s.output ≤ most_outputs
-  pub steps : s.steps ≤ 268435455
-  pub instr : s.instr ≤ 1073741824
+  pub steps : s.steps ≤ most_steps
+  pub instr : s.instr ≤ most_instr
   pub taken : s.taken ≤ most_inputs
   pub room : HasRoom s.pending s
   pub rest : HasRest s.expected s

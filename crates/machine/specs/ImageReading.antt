@@ -64,10 +64,19 @@ kept None i = Ok i
 kept (Some k) i = Err k
 
 -- the instruction of an operation and of the bytes behind its code
+abbrev pub instr_in : Op → List ℕ → Instr
+instr_in o bytes = record {
+  op = o;
+  a = slice_index bytes 1;
+  b = slice_index bytes 2;
+  c = slice_index bytes 3;
+  imm = from_be_bytes w32 (slice_range bytes 4 8);
+}
+
+-- that instruction, where the code names an operation and the rules are kept
 abbrev pub with_op : ℕ → List ℕ → Option Op → Result Instr ImageKind
 with_op len bytes None = Err kind.Opcode
-with_op len bytes (Some o) =
-    let i : Instr = record { op = o; a = slice_index bytes 1; b = slice_index bytes 2; c = slice_index bytes 3; imm = from_be_bytes w32 (slice_range bytes 4 8) } in kept (instr_fault len i) i
+with_op len bytes (Some o) = kept (instr_fault len (instr_in o bytes)) (instr_in o bytes)
 
 -- the instruction of the first eight bytes
 unfoldable pub instr_at : ℕ → List ℕ → Result Instr ImageKind
@@ -100,7 +109,8 @@ codes_at thread (len ∷ lens) bytes = do
 unfoldable pub body_of : List ℕ → Result ProgramValue ImageFault
 body_of bytes = do
   threads ← codes_at 0 (lengths_in bytes) (drop (codes_place bytes) bytes)
-  if nat_lt (image_len bytes) (length bytes) then Err (whole_fault kind.Long) else Ok (record { words = numbers_at w32 (words_in bytes) (drop (words_place bytes) bytes); threads = threads })
+  if nat_lt (image_len bytes) (length bytes) then Err (whole_fault kind.Long)
+      else Ok (record { words = numbers_at w32 (words_in bytes) (drop (words_place bytes) bytes); threads = threads })
 
 -- the program whose image the bytes are, or the first fault
 unfoldable pub image_read : List ℕ → Result ProgramValue ImageFault

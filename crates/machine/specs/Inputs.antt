@@ -2,15 +2,12 @@
 use Rattle.std.specs.Prelude.{ℕ, ◌≤◌, Bool, not, ◌&&◌, nat_lt, List, [], length, slice_index_or, map, All}
 use Rattle.std.specs.Global.{Vec}
 use Rattle.std.specs.List.{list_all}
+pub use Rattle.replay_model.specs.Bounds.{most_inputs}
 use Rattle.machine.specs.Faults.{is_count}
 
 -- the input numbers of a program, the list of thread 0 first
 abbrev pub InputsValue : Type 0
 InputsValue = List (List ℕ)
-
--- the most numbers of an input list
-abbrev pub most_inputs : ℕ
-most_inputs = 65536
 
 -- the list of a thread; one past the last has no numbers
 abbrev pub inputs_of : InputsValue → ℕ → List ℕ

@@ -26,7 +26,8 @@ EndWithinSteps = (p : ProgramValue) (limits : LimitsValue) (inputs : InputsValue
 
 -- a state counts the steps that led to it
 abbrev pub CountSteps : Type 0
-CountSteps = (p : ProgramValue) (limits : LimitsValue) (inputs : InputsValue) (t : ℕ) (steps : List Step) → (state_after p limits inputs t steps).steps ≡ length steps
+CountSteps = (p : ProgramValue) (limits : LimitsValue) (inputs : InputsValue) (t : ℕ) (steps : List Step) →
+    (state_after p limits inputs t steps).steps ≡ length steps
 
 -- a state is one of its thread
 abbrev pub KeepThread : Type 0
@@ -35,7 +36,8 @@ KeepThread = (p : ProgramValue) (limits : LimitsValue) (inputs : InputsValue) (t
 -- one more step is taken from the state before it
 abbrev pub GoStepByStep : Type 0
 GoStepByStep = (p : ProgramValue) (limits : LimitsValue) (inputs : InputsValue) (t : ℕ) (steps : List Step) (step : Step) →
-    state_after p limits inputs t (steps ++ step ∷ []) ≡ settled p limits (inputs_of inputs t) (is_full limits.entries (steps ++ step ∷ [])) (took (state_after p limits inputs t steps) step.found)
+    state_after p limits inputs t (steps ++ step ∷ []) ≡
+    settled p limits (inputs_of inputs t) (is_full limits.entries (steps ++ step ∷ [])) (took (state_after p limits inputs t steps) step.found)
 
 -- a settled state has something pending
 abbrev pub SettleWithPending : Type 0
@@ -45,9 +47,11 @@ SettleWithPending = (p : ProgramValue) (limits : LimitsValue) (list : List ℕ) 
 abbrev pub StaySettled : Type 0
 StaySettled = (p : ProgramValue) (limits : LimitsValue) (list : List ℕ) (full : Bool) (s : State) → IsSome s.pending → settled p limits list full s ≡ s
 
--- the threads keep to their limits where the input lists are short: no run has more instructions or takes more numbers, no read comes where the log is full, and an address is bad only where no word has it
+-- the threads keep to their limits where the input lists are short: no run has more instructions or takes more numbers, no read comes where
+-- the log is full, and an address is bad only where no word has it
 abbrev pub KeepToLimits : Type 0
-KeepToLimits = (p : ProgramValue) (limits : LimitsValue) (inputs : InputsValue) → AreShort inputs → KeepsLimits (threads_of p limits inputs) (tallies_of p limits inputs) (length p.words) limits
+KeepToLimits = (p : ProgramValue) (limits : LimitsValue) (inputs : InputsValue) → AreShort inputs →
+    KeepsLimits (threads_of p limits inputs) (tallies_of p limits inputs) (length p.words) limits
 
 -- the last of these steps of a thread was a load of this word, which found a cell with this tag
 pub record FollowsLoad (threads : Threads) (t : ℕ) (steps : List Step) (word : ℕ) (seen : Tag) : Type 0 where
@@ -92,4 +96,5 @@ taken_in log = map (λ (thread : ThreadLog). thread.taken) log.threads
 -- runs that fit a log under some inputs fit it under the numbers that it holds
 abbrev pub FitOnTaken : Type 0
 FitOnTaken = (p : ProgramValue) (limits : LimitsValue) (inputs : InputsValue) (initial : List ℕ) (log : Log) (runs : List (List Step)) →
-    Fits (threads_of p limits inputs) (tallies_of p limits inputs) initial log runs → Fits (threads_of p limits (taken_in log)) (tallies_of p limits (taken_in log)) initial log runs
+    Fits (threads_of p limits inputs) (tallies_of p limits inputs) initial log runs →
+    Fits (threads_of p limits (taken_in log)) (tallies_of p limits (taken_in log)) initial log runs

@@ -1,6 +1,7 @@
 -- Programs, and the rules that they keep.
 use Rattle.std.specs.Prelude.{◌≡◌, ℕ, ◌≤◌, Bool, true, false, ◌&&◌, ◌||◌, ◌==◌, not, nat_lt, Option, List, [], ◌∷◌, length, slice_get, slice_index_or, map, All}
 use Rattle.std.specs.Global.{Vec}
+use Rattle.replay_model.specs.Bounds.{most_entries}
 pub use Rattle.replay_model.specs.Logs.{Limits}
 pub use Rattle.machine.specs.declared.program.Instr.{Instr}
 pub use Rattle.machine.specs.declared.program.Op.{Op}
@@ -15,10 +16,21 @@ pub record ProgramValue : Type 0 where
 abbrev pub LimitsValue : Type 0
 LimitsValue = Limits
 
+-- the most memory steps that limits may allow, and the most instructions
+abbrev pub most_steps : ℕ
+most_steps = 268435455
+
+abbrev pub most_instr : ℕ
+most_instr = 1073741824
+
+abbrev pub limits_of : ℕ → ℕ → ℕ → LimitsValue
+limits_of steps instr entries = record { steps = steps; instr = instr; entries = entries }
+
+-- the rules of limits
 pub record AreLimits (limits : LimitsValue) : Type 0 where
-  pub steps : limits.steps ≤ 268435455
-  pub instr : limits.instr ≤ 1073741824
-  pub entries : limits.entries ≤ 16384
+  pub steps : limits.steps ≤ most_steps
+  pub instr : limits.instr ≤ most_instr
+  pub entries : limits.entries ≤ most_entries
 
 -- the number of an operation in an image
 abbrev pub code_of_op : Op → ℕ
@@ -48,7 +60,8 @@ code_of_op op.Input = 21
 -- every operation, in the order of their numbers
 abbrev pub every_op : List Op
 every_op =
-    op.Halt ∷ op.Const ∷ op.Mov ∷ op.Add ∷ op.Sub ∷ op.Mul ∷ op.And ∷ op.Or ∷ op.Xor ∷ op.Shl ∷ op.Shr ∷ op.Addi ∷ op.Jmp ∷ op.Jeq ∷ op.Jne ∷ op.Jlt ∷ op.Out ∷ op.Load ∷ op.Store ∷ op.Xchg ∷ op.Cas ∷ op.Input ∷ []
+    op.Halt ∷ op.Const ∷ op.Mov ∷ op.Add ∷ op.Sub ∷ op.Mul ∷ op.And ∷ op.Or ∷ op.Xor ∷ op.Shl ∷ op.Shr ∷ op.Addi ∷ op.Jmp ∷
+    op.Jeq ∷ op.Jne ∷ op.Jlt ∷ op.Out ∷ op.Load ∷ op.Store ∷ op.Xchg ∷ op.Cas ∷ op.Input ∷ []
 
 -- the operation with this number, if there is one
 abbrev pub op_of : ℕ → Option Op

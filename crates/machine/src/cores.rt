@@ -1,27 +1,18 @@
 // One thread of a program: its registers and its place, and what it wants of the memory next.
-ghost use Rattle.std.specs.Prelude.{◌≡◌, ℕ, ◌+◌, ◌<◌, ◌≤◌, true, false, if◌then◌else◌, slice_get, slice_index, Some, None, List, [], length, take, IfOk, IfSome, OnOk, OnErr, IsSome, IsSomeAnd, option_and_then};
+ghost use Rattle.std.specs.Prelude.{◌≡◌, ◌<◌, ◌≤◌, true, false, Some, None, [], length, IfOk, OnOk, OnErr, IsSome, IsSomeAnd, option_and_then};
 ghost use Rattle.replay_model.specs.Steps.{reads, has_ended};
-ghost use Rattle.machine.specs.Programs.{AreLimits, IsCode, code_of};
-ghost use Rattle.machine.specs.Cores.{State, first_state, is_memory, comes_to, run_on, second_wanted, computes, IsState, settled, with_register, told, compared, exchanged, cas_found, pending_want, step_done, took, end_of, report_of, is_store};
-ghost use Rattle.machine.specs.Turns.{bounds_of, moved, rested, Computed, IsCourse, IsUnderWay, NamesRegisters, Turns};
+ghost use Rattle.machine.specs.Inputs.{most_inputs};
+ghost use Rattle.machine.specs.Programs.{most_steps};
+ghost use Rattle.machine.specs.Cores.{first_state, run_of, second_wanted, settled, with_register, told, compared, exchanged};
+ghost use Rattle.machine.specs.Cores.{cas_found, pending_want, step_done, took, end_of, report_of, is_store};
+ghost use Rattle.machine.specs.Turns.{IsCourse, IsUnderWay};
 
-use crate::program::{Instr, Limits, Op, Program};
+use crate::courses::Course;
+use crate::program::{HALT, Instr, Limits, Op, Program};
 use light_base::{Cell, Memory, Tag};
 use replay_model::{End, Want};
 use std::alloc::Global;
 use std::marker::Model;
-
-/// The most values that a thread puts out.
-const MOST_OUTPUTS: usize = 65_536;
-
-/// What stands past the end of a code.
-const HALT: Instr = Instr {
-    op: Op::Halt,
-    a: 0,
-    b: 0,
-    c: 0,
-    imm: 0,
-};
 
 /// How a thread ended, and what it did.
 #[derive(Debug, Drop)]
@@ -69,283 +60,31 @@ impl Model for Core {
 
     ghost Value = { State };
 
-    ghost view = { λ c. record { thread = c.thread; registers = c.registers; place = c.place; output = c.output.items; steps = c.steps; instr = c.instr; taken = c.taken; doing = c.doing; expected = c.expected; pending = c.pending } };
+    ghost view = { λ c. record {
+      thread = c.thread;
+      registers = c.registers;
+      place = c.place;
+      output = c.output.items;
+      steps = c.steps;
+      instr = c.instr;
+      taken = c.taken;
+      doing = c.doing;
+      expected = c.expected;
+      pending = c.pending;
+    } };
 
-    ghost invariant = { λ c. IsState (record { thread = c.thread; registers = c.registers; place = c.place; output = c.output.items; steps = c.steps; instr = c.instr; taken = c.taken; doing = c.doing; expected = c.expected; pending = c.pending }) };
-}
-
-/// What came of an instruction.
-#[derive(Clone, Copy)]
-enum Turn {
-    /// It was local, and the thread goes on at this place.
-    Next(usize),
-    /// The thread stays before it and wants this.
-    Stop(Want),
-}
-
-/// What an instruction is to a thread that runs without the memory.
-#[derive(Clone, Copy)]
-enum Local {
-    /// It only computed or jumped, and the thread goes on at this place.
-    Next(usize),
-    /// It takes a memory step.
-    Memory,
-    /// It ends the thread, puts out a value or takes an input number.
-    Other,
-}
-
-/// A place in a code, how many instructions were finished before it, and the instruction there if it takes a memory step.
-#[derive(Clone, Copy)]
-struct Way<'a> {
-    place: usize,
-    instr: u32,
-    memory: Option<&'a Instr>,
-}
-
-/// Where a thread stopped, and what it wants there.
-#[derive(Clone, Copy)]
-struct Rest {
-    place: usize,
-    instr: u32,
-    taken: u32,
-    doing: Instr,
-    wanted: Want,
-}
-
-/// What a thread runs between two memory steps, and what bounds it.
-#[derive(Clone, Copy)]
-struct Course<'a, 'b> {
-    code: &'a [Instr],
-    inputs: &'b [u32],
-    words: usize,
-    most_steps: u32,
-    most_instr: u32,
-    full: bool,
-    steps: u32,
-}
-
-// Where a jump leads: to its target where it is taken, and else to the next place.
-fn jump(taken: bool, target: u32, place: usize) -> usize
-    requires { place < 4096 }
-    ensures { result ≡ (if taken then target else place + 1) }
-{
-    if taken { target as usize } else { place + 1 }
-}
-
-// What is wanted is pending, and is handed on. Each place that knows what is wanted calls this, so that what it is need not
-// be told apart again.
-#[inline(always)]
-fn put_down(pending: &mut Option<Want>, wanted: Want) -> Want
-    ensures pending { pending.new ≡ Some wanted }
-    ensures same { result ≡ wanted }
-{
-    let told = wanted;
-    *pending = Some(wanted);
-    told
-}
-
-// The value of a register.
-#[inline(always)]
-fn value_of(registers: &[u32; 16], number: u8) -> u32
-    requires { number < 16 }
-    ensures { result ≡ slice_index registers.now number }
-{
-    registers[usize::from(number)]
-}
-
-// Takes an instruction that only computes or jumps; with another one nothing changes. Each arm reads the fields that it needs.
-#[inline(always)]
-fn compute(registers: &mut [u32; 16], place: usize, i: &Instr) -> Local
-    requires place { place < 4096 }
-    requires fields { NamesRegisters i.now }
-    ensures { Computed i.now registers.old place result registers.new }
-{
-    let value = match i.op {
-        Op::Const => i.imm,
-        Op::Mov => value_of(registers, i.b),
-        Op::Add => value_of(registers, i.b).wrapping_add(value_of(registers, i.c)),
-        Op::Sub => value_of(registers, i.b).wrapping_sub(value_of(registers, i.c)),
-        Op::Mul => value_of(registers, i.b).wrapping_mul(value_of(registers, i.c)),
-        Op::And => value_of(registers, i.b) & value_of(registers, i.c),
-        Op::Or => value_of(registers, i.b) | value_of(registers, i.c),
-        Op::Xor => value_of(registers, i.b) ^ value_of(registers, i.c),
-        Op::Shl => value_of(registers, i.b).wrapping_shl(value_of(registers, i.c)),
-        Op::Shr => value_of(registers, i.b).wrapping_shr(value_of(registers, i.c)),
-        Op::Addi => value_of(registers, i.b).wrapping_add(i.imm),
-        Op::Jmp => return Local::Next(jump(true, i.imm, place)),
-        Op::Jeq => {
-            let equal = value_of(registers, i.a) == value_of(registers, i.b);
-            return Local::Next(jump(equal, i.imm, place));
-        }
-        Op::Jne => {
-            let other = value_of(registers, i.a) != value_of(registers, i.b);
-            return Local::Next(jump(other, i.imm, place));
-        }
-        Op::Jlt => {
-            let less = value_of(registers, i.a) < value_of(registers, i.b);
-            return Local::Next(jump(less, i.imm, place));
-        }
-        Op::Load | Op::Store | Op::Xchg | Op::Cas => return Local::Memory,
-        Op::Halt | Op::Out | Op::Input => return Local::Other,
-    };
-    registers[usize::from(i.a)] = value;
-    Local::Next(place + 1)
-}
-
-impl<'a> Course<'a, '_> {
-    // Runs instructions that only compute or jump, as long as they come and the limit leaves some.
-    #[inline(always)]
-    fn go_along(&self, registers: &mut [u32; 16], mut place: usize, mut instr: u32) -> Way<'a>
-        requires code { IsCode self.now.code.now }
-        requires bounds { AreLimits (bounds_of self.now) }
-        requires state { IsState (moved (first_state 0) registers.old place [] 0 instr 0) }
-        ensures same { (s : State) (output : List ℕ) (taken : ℕ) → run_on self.now.code.now self.now.words (bounds_of self.now) self.now.inputs.now self.now.full (moved s registers.old place output self.now.steps instr taken) ≡ run_on self.now.code.now self.now.words (bounds_of self.now) self.now.inputs.now self.now.full (moved s registers.new result.place output self.now.steps result.instr taken) }
-        ensures state { IsState (moved (first_state 0) registers.new result.place [] 0 result.instr 0) }
-        ensures memory { IfSome result.memory (λ i. (slice_get self.now.code.now result.place ≡ Some i.now) × (is_memory i.now.op ≡ true) × (result.instr < self.now.most_instr)) }
-    {
-        while instr < self.most_instr && place < self.code.len() {
-            let i = &self.code[place];
-            match compute(registers, place, i) {
-                Local::Next(next) => {
-                    place = next;
-                    instr += 1;
-                }
-                Local::Memory => {
-                    return Way {
-                        place,
-                        instr,
-                        memory: Some(i),
-                    };
-                }
-                Local::Other => break,
-            }
-        }
-        Way {
-            place,
-            instr,
-            memory: None,
-        }
-    }
-
-    // The memory step of this instruction, or the end that comes before it; it is pending too.
-    #[inline(always)]
-    fn memory_step(&self, registers: &[u32; 16], i: &Instr, pending: &mut Option<Want>) -> Want
-        requires words { self.now.words ≤ 4096 }
-        requires fields { NamesRegisters i.now }
-        requires memory { is_memory i.now.op ≡ true }
-        ensures value { (s : State) (place instr taken : ℕ) (output : List ℕ) → instr < self.now.most_instr → comes_to self.now.words (bounds_of self.now) self.now.inputs.now self.now.full (moved s registers.now place output self.now.steps instr taken) (Some i.now) ≡ Some result }
-        ensures pending { pending.new ≡ Some result }
-    {
-        let address = registers[usize::from(i.b)].wrapping_add(i.imm);
-        if address as usize >= self.words {
-            return put_down(pending, Want::Ended(End::BadAddress(address)));
-        }
-        if self.steps >= self.most_steps {
-            return put_down(pending, Want::Ended(End::StepsSpent));
-        }
-        let word = address as u16;
-        match i.op {
-            Op::Store => put_down(pending, Want::Store(word, registers[usize::from(i.a)])),
-            _ if self.full => put_down(pending, Want::Ended(End::EntriesFull)),
-            Op::Xchg => put_down(pending, Want::Swap(word, registers[usize::from(i.a)])),
-            _ => put_down(pending, Want::Load(word)),
-        }
-    }
-
-    // Takes the instruction at a place, where it is local; an `Err` comes only from putting out a value.
-    fn turn(
-        &self,
-        registers: &mut [u32; 16],
-        place: usize,
-        output: &mut Vec<u32>,
-        instr: u32,
-        taken: &mut u32,
-        i: &Instr,
-    ) -> Result<Turn, Memory>
-        requires words { self.now.words ≤ 4096 }
-        requires place { place < 4096 }
-        requires inputs { length self.now.inputs.now ≤ 65536 }
-        requires fields { NamesRegisters i.now }
-        ensures ok { IfOk result (λ turn. (s : State) → Turns self.now.words (bounds_of self.now) self.now.inputs.now self.now.full i.now (moved s registers.old place output.old.items self.now.steps instr taken.old) turn registers.new output.new.items taken.new) }
-        ensures err { OnErr result ((s : State) → comes_to self.now.words (bounds_of self.now) self.now.inputs.now self.now.full (moved s registers.old place output.old.items self.now.steps instr taken.old) (Some i.now) ≡ None) }
-        ensures puts { OnErr result (i.now.op ≡ Op.Out) }
-        ensures kept { take (length output.old.items) output.new.items ≡ output.old.items }
-    {
-        match i.op {
-            Op::Halt => return Ok(Turn::Stop(Want::Ended(End::Halted))),
-            _ if instr >= self.most_instr => {
-                return Ok(Turn::Stop(Want::Ended(End::InstrSpent)));
-            }
-            Op::Out => {
-                if output.len() >= MOST_OUTPUTS {
-                    return Ok(Turn::Stop(Want::Ended(End::OutputFull)));
-                }
-                if output.push(registers[usize::from(i.a)]).is_err() {
-                    return Err(Memory);
-                }
-            }
-            Op::Input => {
-                let at = *taken as usize;
-                if at >= self.inputs.len() {
-                    return Ok(Turn::Stop(Want::Ended(End::InputEmpty)));
-                }
-                registers[usize::from(i.a)] = self.inputs[at];
-                *taken += 1;
-            }
-            Op::Load | Op::Store | Op::Xchg | Op::Cas => {
-                let mut pending = None;
-                return Ok(Turn::Stop(self.memory_step(registers, i, &mut pending)));
-            }
-            _ => match compute(registers, place, i) {
-                Local::Next(next) => return Ok(Turn::Next(next)),
-                Local::Memory | Local::Other => unreachable!(),
-            },
-        }
-        Ok(Turn::Next(place + 1))
-    }
-
-    // Runs local instructions until the thread stops; an `Err` comes only where it puts out a value before that.
-    fn run(
-        &self,
-        registers: &mut [u32; 16],
-        mut place: usize,
-        output: &mut Vec<u32>,
-        mut instr: u32,
-        mut taken: u32,
-    ) -> Result<Rest, Memory>
-        requires words { self.now.words ≤ 4096 }
-        requires code { IsCode self.now.code.now }
-        requires inputs { length self.now.inputs.now ≤ 65536 }
-        ensures ok { IfOk result (λ rest. (s : State) → run_on self.now.code.now self.now.words (bounds_of self.now) self.now.inputs.now self.now.full (moved s registers.old place output.old.items self.now.steps instr taken) ≡ rested s registers.new output.new.items self.now.steps rest) }
-        ensures err { OnErr result ((s : State) → length output.old.items < length (run_on self.now.code.now self.now.words (bounds_of self.now) self.now.inputs.now self.now.full (moved s registers.old place output.old.items self.now.steps instr taken)).output) }
-        ensures kept { take (length output.old.items) output.new.items ≡ output.old.items }
-    {
-        while place < self.code.len() {
-            let i = &self.code[place];
-            match self.turn(registers, place, output, instr, &mut taken, i)? {
-                Turn::Next(next) => {
-                    place = next;
-                    instr += 1;
-                }
-                Turn::Stop(wanted) => {
-                    return Ok(Rest {
-                        place,
-                        instr,
-                        taken,
-                        doing: *i,
-                        wanted,
-                    });
-                }
-            }
-        }
-        Ok(Rest {
-            place,
-            instr,
-            taken,
-            doing: HALT,
-            wanted: Want::Ended(End::Halted),
-        })
-    }
+    ghost invariant = { λ c. IsState (record {
+      thread = c.thread;
+      registers = c.registers;
+      place = c.place;
+      output = c.output.items;
+      steps = c.steps;
+      instr = c.instr;
+      taken = c.taken;
+      doing = c.doing;
+      expected = c.expected;
+      pending = c.pending;
+    }) };
 }
 
 impl Core {
@@ -390,7 +129,7 @@ impl Core {
         full: bool,
     ) -> Result<Want, Memory>
         requires thread { self.old.thread < length program.now.threads }
-        requires inputs { length inputs.now ≤ 65536 }
+        requires inputs { length inputs.now ≤ most_inputs }
         ensures ok { IfOk result (λ wanted. (self.new ≡ settled program.now limits.now inputs.now full self.old) × (self.new.pending ≡ Some wanted)) }
         ensures err { OnErr result (self.new ≡ self.old) }
         ensures memory { OnErr result (length self.old.output < length (settled program.now limits.now inputs.now full self.old).output) }
@@ -418,7 +157,7 @@ impl Core {
         full: bool,
     ) -> Result<Want, Memory>
         requires thread { self.old.thread < length program.now.threads }
-        requires inputs { length inputs.now ≤ 65536 }
+        requires inputs { length inputs.now ≤ most_inputs }
         ensures ok { IfOk result (λ wanted. (self.new ≡ settled program.now limits.now inputs.now full self.old) × (self.new.pending ≡ Some wanted)) }
         ensures err { OnErr result (IsUnderWay program.now limits.now inputs.now full self.old self.new) }
         ensures memory { OnErr result (length self.old.output < length (settled program.now limits.now inputs.now full self.old).output) }
@@ -448,7 +187,7 @@ impl Core {
     fn second_wanted(&self, limits: &Limits, full: bool, expected: Expected) -> Want
         requires { self.now.expected ≡ Some expected }
         ensures value { result ≡ second_wanted limits.now full self.now expected }
-        ensures room { has_ended result ≡ false → self.now.steps < 268435455 }
+        ensures room { has_ended result ≡ false → self.now.steps < most_steps }
     {
         if self.steps >= limits.steps() {
             return Want::Ended(End::StepsSpent);
@@ -470,7 +209,7 @@ impl Core {
         full: bool,
     ) -> Course<'a, 'b>
         requires thread { self.now.thread < length program.now.threads }
-        requires inputs { length inputs.now ≤ 65536 }
+        requires inputs { length inputs.now ≤ most_inputs }
         ensures { IsCourse program.now limits.now inputs.now full self.now result }
     {
         Course {
@@ -495,12 +234,12 @@ impl Core {
         full: bool,
     ) -> Result<Want, Memory>
         requires thread { self.old.thread < length program.now.threads }
-        requires inputs { length inputs.now ≤ 65536 }
+        requires inputs { length inputs.now ≤ most_inputs }
         requires fresh { self.old.expected ≡ None }
         requires none { self.old.pending ≡ None }
-        ensures ok { IfOk result (λ wanted. (self.new ≡ run_on (code_of program.now self.old.thread) (length program.now.words) limits.now inputs.now full self.old) × (self.new.pending ≡ Some wanted)) }
+        ensures ok { IfOk result (λ wanted. (self.new ≡ run_of program.now limits.now inputs.now full self.old) × (self.new.pending ≡ Some wanted)) }
         ensures err { OnErr result (IsUnderWay program.now limits.now inputs.now full self.old self.new) }
-        ensures memory { OnErr result (length self.old.output < length (run_on (code_of program.now self.old.thread) (length program.now.words) limits.now inputs.now full self.old).output) }
+        ensures memory { OnErr result (length self.old.output < length (run_of program.now limits.now inputs.now full self.old).output) }
     {
         let course = self.course(program, limits, inputs, full);
         let way = course.go_along(&mut self.registers, self.place, self.instr);
@@ -539,12 +278,12 @@ impl Core {
         full: bool,
     ) -> Result<(), Memory>
         requires thread { self.old.thread < length program.now.threads }
-        requires inputs { length inputs.now ≤ 65536 }
+        requires inputs { length inputs.now ≤ most_inputs }
         requires fresh { self.old.expected ≡ None }
         requires none { self.old.pending ≡ None }
-        ensures ok { OnOk result ((self.new ≡ run_on (code_of program.now self.old.thread) (length program.now.words) limits.now inputs.now full self.old) × IsSome self.new.pending) }
+        ensures ok { OnOk result ((self.new ≡ run_of program.now limits.now inputs.now full self.old) × IsSome self.new.pending) }
         ensures err { OnErr result (self.new ≡ self.old) }
-        ensures memory { OnErr result (length self.old.output < length (run_on (code_of program.now self.old.thread) (length program.now.words) limits.now inputs.now full self.old).output) }
+        ensures memory { OnErr result (length self.old.output < length (run_of program.now limits.now inputs.now full self.old).output) }
     {
         let course = self.course(program, limits, inputs, full);
         let registers = self.registers;
@@ -758,19 +497,6 @@ impl Core {
 }
 
 impl RunReport {
-    /// The report of these parts.
-    pub fn new(end: End, steps: u32, instr: u32, output: Vec<u32>, taken: u32) -> RunReport
-        ensures { result ≡ record { end = end; steps = steps; instr = instr; output = output.items; taken = taken } }
-    {
-        RunReport {
-            end,
-            steps,
-            instr,
-            output,
-            taken,
-        }
-    }
-
     /// How the thread ended.
     pub fn end(&self) -> End
         ensures { result ≡ self.now.end }

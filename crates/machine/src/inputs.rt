@@ -2,14 +2,14 @@
 ghost use Rattle.std.specs.Prelude.{◌≡◌, ◌<◌, ◌≤◌, [], IfOk, SomeIff, length, replicate};
 ghost use Rattle.std.specs.List.{list_all};
 ghost use Rattle.machine.specs.Faults.{is_count};
-ghost use Rattle.machine.specs.Inputs.{AreInputs, are_inputs, input_lists, inputs_of, is_short_list};
+ghost use Rattle.machine.specs.Inputs.{AreInputs, are_inputs, input_lists, inputs_of, is_short_list, most_inputs};
 
 use light_base::Memory;
 use std::alloc::Global;
 use std::marker::Model;
 
 /// The most numbers of an input list.
-pub(crate) const MOST_INPUTS: usize = 65_536;
+pub const MOST_INPUTS: usize = 65_536;
 
 /// The input lists of 1 to 15 threads, thread 0 first: numbers of 32 bits, at most 65,536 for each thread.
 #[derive(Debug, Drop)]
@@ -91,7 +91,7 @@ impl Inputs {
         requires { thread < length self.now }
         ensures value { result.now ≡ inputs_of self.now thread }
         ensures rules { AreInputs self.now }
-        ensures short { length result.now ≤ 65536 }
+        ensures short { length result.now ≤ most_inputs }
     {
         &self.threads[thread]
     }

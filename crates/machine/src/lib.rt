@@ -2,6 +2,7 @@
 #![tactic(auto)]
 
 mod cores;
+mod courses;
 mod crossing;
 mod image;
 mod image_fault;
@@ -10,6 +11,7 @@ mod input_fault;
 mod input_reading;
 mod inputs;
 mod laws;
+mod local_instr;
 mod program;
 mod reading;
 
@@ -19,7 +21,7 @@ pub use crate::image_fault::{ImageFault, ImageKind};
 pub use crate::image_writing::write_image;
 pub use crate::input_fault::{InputFault, InputKind};
 pub use crate::input_reading::{inputs_law, read_inputs};
-pub use crate::inputs::Inputs;
+pub use crate::inputs::{Inputs, MOST_INPUTS};
 pub use crate::laws::{input_law, machine_law};
 pub use crate::program::{Instr, Limits, OPS, Op, Program};
 pub use crate::reading::numbers_of;

@@ -1,7 +1,8 @@
 // Programs: what a thread can be told to do, and the rules that a program keeps.
 ghost use Rattle.std.specs.Prelude.{◌≡◌, ◌↔◌, ◌<◌, ◌≤◌, Some, true, length, map, SomeIff, IsOk};
 ghost use Rattle.std.specs.List.{list_all};
-ghost use Rattle.machine.specs.Programs.{AreLimits, IsProgram, code_lists, code_of, code_of_op, op_of, uses_a, uses_b, uses_c, uses_imm, jumps, has_registers, has_idle_zero, has_target};
+ghost use Rattle.machine.specs.Programs.{AreLimits, IsProgram, code_lists, code_of, code_of_op, limits_of, op_of};
+ghost use Rattle.machine.specs.Programs.{uses_a, uses_b, uses_c, uses_imm, jumps, has_registers, has_idle_zero, has_target};
 ghost use Rattle.machine.specs.Faults.{instr_fault, code_fault, codes_fault, program_fault, checked, are_counts, is_short_code};
 
 use crate::image_fault::{ImageFault, ImageKind};
@@ -155,6 +156,15 @@ pub struct Instr {
     pub c: u8,
     pub imm: u32,
 }
+
+/// What stands past the end of a code.
+pub(crate) const HALT: Instr = Instr {
+    op: Op::Halt,
+    a: 0,
+    b: 0,
+    c: 0,
+    imm: 0,
+};
 
 impl Instr {
     fn has_registers(&self) -> bool
@@ -330,6 +340,15 @@ fn fault_of(words: &[u32], threads: &[Vec<Instr>]) -> Option<ImageFault>
     codes_fault(threads)
 }
 
+/// The most memory steps that limits may allow.
+const MOST_STEPS: u32 = 268_435_455;
+
+/// The most instructions.
+const MOST_INSTR: u32 = 1_073_741_824;
+
+/// The most log entries.
+const MOST_ENTRIES: u32 = 16_384;
+
 /// How much a thread may do at most.
 #[derive(Clone, Copy, Debug, PartialEq, Eq)]
 pub struct Limits {
@@ -354,9 +373,9 @@ impl Limits {
     /// Limits of a thread: at most so many memory steps, instructions and log entries. None exactly where steps is over
     /// 268,435,455, instr over 1,073,741,824 or entries over 16,384.
     pub fn new(steps: u32, instr: u32, entries: u32) -> Option<Limits>
-        ensures { SomeIff result (AreLimits (record { steps = steps; instr = instr; entries = entries })) (record { steps = steps; instr = instr; entries = entries }) }
+        ensures { SomeIff result (AreLimits (limits_of steps instr entries)) (limits_of steps instr entries) }
     {
-        if steps > 268_435_455 || instr > 1_073_741_824 || entries > 16_384 {
+        if steps > MOST_STEPS || instr > MOST_INSTR || entries > MOST_ENTRIES {
             return None;
         }
         Some(Limits {

@@ -1,7 +1,7 @@
 -- Carrying lowered clocks on: along each step clocks rise, or the clock of its end has fallen and its node waits.
 use Rattle.std.specs.Prelude.{◌≡◌, ℕ, ◌+◌, ◌*◌, ◌<◌, ◌≤◌, ◌⊎◌, List, [], ◌∷◌, ◌++◌, length, slice_index_or, sum, Contains}
 use Rattle.order_graph.specs.Shapes.{Shape, arrow, IsNext, IsStep}
-use Rattle.order_graph.specs.Clocks.{Rises}
+use Rattle.order_graph.specs.Clocks.{Rises, IsOpening, IsClosed, IsExact}
 
 -- nothing changed, or the sum fell and the node waits
 abbrev pub Pulled : ℕ → List ℕ → List ℕ → List ℕ → List ℕ → Type 0
@@ -27,5 +27,22 @@ pub record Carried (g : Shape) (threads node at : ℕ) (old work new work' : Lis
   pub weight : 2 * sum new + length work' ≤ 2 * sum old + length work
   pub nodes : AreNodes (length g.lanes) work → AreNodes (length g.lanes) work'
 
+-- along each step clocks rise, but maybe along one
 pub record IsClosedBut (g : Shape) (threads u v : ℕ) (clocks : List ℕ) : Type 0 where
   pub closed : (x y : ℕ) → IsStep g x y → Rises threads clocks x y ⊎ ((x ≡ u) × (y ≡ v))
+
+-- no clock fell too low
+abbrev pub KeepsOpening : Shape → ℕ → List ℕ → List ℕ → Type 0
+KeepsOpening g threads old new = IsOpening g threads old → IsOpening g threads new
+
+-- all that waited was carried on
+abbrev pub Closes : Shape → ℕ → List ℕ → List ℕ → List ℕ → Type 0
+Closes g threads work old new = Waits g threads work old → IsClosed g threads new
+
+-- clocks that rise but along a new edge rise along that too
+abbrev pub ClosesEdge : Shape → ℕ → ℕ → ℕ → List ℕ → List ℕ → Type 0
+ClosesEdge g threads u v old new = IsClosedBut g threads u v old → IsClosed g threads new
+
+-- clocks that were exact before the new edge are exact again
+abbrev pub TakesEdge : Shape → ℕ → ℕ → ℕ → List ℕ → List ℕ → Type 0
+TakesEdge g threads u v old new = IsOpening g threads old → IsClosedBut g threads u v old → IsExact g threads new

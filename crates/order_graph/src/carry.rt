@@ -1,9 +1,9 @@
 // Carries a lowered clock on to the nodes before it, by a list of the nodes that wait.
 ghost use Rattle.std.specs.Prelude.{◌≡◌, ℕ, ◌+◌, ◌*◌, ◌<◌, ◌≤◌, Bool, true, false, List, length, sum};
 ghost use Rattle.order_graph.specs.Shapes.{shape, IsStep};
-ghost use Rattle.order_graph.specs.Clocks.{IsLowering, HasRoom, IsOpening, IsExact, IsClosed};
+ghost use Rattle.order_graph.specs.Clocks.{IsLowering, HasRoom};
 ghost use Rattle.order_graph.specs.Links.{AreLinked};
-ghost use Rattle.order_graph.specs.Carrying.{Pulled, Carried, AreNodes, Waits, IsClosedBut};
+ghost use Rattle.order_graph.specs.Carrying.{Pulled, Carried, AreNodes, KeepsOpening, Closes, ClosesEdge, TakesEdge};
 
 use crate::clocks::{lower, settle};
 use plain_search::Edge;
@@ -35,7 +35,7 @@ fn lower_into(
     requires room { HasRoom threads lanes.now edges.now (length clocks.old) }
     requires linked { AreLinked (length lanes.now) edges.now heads.now older.now }
     requires node { node < length lanes.now }
-    ensures opening { IsOpening (shape lanes.now edges.now) threads clocks.old → IsOpening (shape lanes.now edges.now) threads clocks.new }
+    ensures opening { KeepsOpening (shape lanes.now edges.now) threads clocks.old clocks.new }
     ensures carried { result ≡ true → Carried (shape lanes.now edges.now) threads node 0 clocks.old work.old.items clocks.new work.new.items }
 {
     let place = node as usize;
@@ -67,8 +67,8 @@ fn carry(
     requires room { HasRoom threads lanes.now edges.now (length clocks.old) }
     requires linked { AreLinked (length lanes.now) edges.now heads.now older.now }
     requires nodes { AreNodes (length lanes.now) work.old.items }
-    ensures opening { IsOpening (shape lanes.now edges.now) threads clocks.old → IsOpening (shape lanes.now edges.now) threads clocks.new }
-    ensures closed { result ≡ true → Waits (shape lanes.now edges.now) threads work.old.items clocks.old → IsClosed (shape lanes.now edges.now) threads clocks.new }
+    ensures opening { KeepsOpening (shape lanes.now edges.now) threads clocks.old clocks.new }
+    ensures closed { result ≡ true → Closes (shape lanes.now edges.now) threads work.old.items clocks.old clocks.new }
 {
     while let Some(node) = work.pop() {
         if !lower_into(threads, lanes, edges, heads, older, clocks, work, node) {
@@ -94,8 +94,8 @@ fn spread(
     requires from { edge.from < length lanes.now }
     requires to { edge.to < length lanes.now }
     requires step { IsStep (shape lanes.now edges.now) edge.from edge.to }
-    ensures opening { IsOpening (shape lanes.now edges.now) threads clocks.old → IsOpening (shape lanes.now edges.now) threads clocks.new }
-    ensures closed { result ≡ true → IsClosedBut (shape lanes.now edges.now) threads edge.from edge.to clocks.old → IsClosed (shape lanes.now edges.now) threads clocks.new }
+    ensures opening { KeepsOpening (shape lanes.now edges.now) threads clocks.old clocks.new }
+    ensures closed { result ≡ true → ClosesEdge (shape lanes.now edges.now) threads edge.from edge.to clocks.old clocks.new }
 {
     work.clear();
     if !pull(threads, clocks, work, edge.from, edge.to) {
@@ -120,7 +120,7 @@ pub fn insert(
     requires from { edge.from < length lanes.now }
     requires to { edge.to < length lanes.now }
     requires step { IsStep (shape lanes.now edges.now) edge.from edge.to }
-    ensures exact { IsOpening (shape lanes.now edges.now) threads clocks.old → IsClosedBut (shape lanes.now edges.now) threads edge.from edge.to clocks.old → IsExact (shape lanes.now edges.now) threads clocks.new }
+    ensures exact { TakesEdge (shape lanes.now edges.now) threads edge.from edge.to clocks.old clocks.new }
 {
     if !spread(threads, lanes, edges, heads, older, clocks, work, edge) {
         settle(threads, lanes, edges, clocks);

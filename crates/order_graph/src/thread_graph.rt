@@ -65,7 +65,8 @@ impl Model for Graph {
     ghost view = { λ g. graph_state g.counts.items g.edges.items g.spare };
 
     ghost invariant = { λ g. IsKept g.counts.items g.lanes.items g.edges.items g.clocks.items g.heads.items g.older.items
-        × (length g.fronts.items ≡ length g.counts.items) × HasSpare g.spare (vec_len g.edges) (vec_capacity g.edges) × HasSpare g.spare (vec_len g.older) (vec_capacity g.older) };
+        × (length g.fronts.items ≡ length g.counts.items) × HasSpare g.spare (vec_len g.edges) (vec_capacity g.edges)
+        × HasSpare g.spare (vec_len g.older) (vec_capacity g.older) };
 }
 
 // The thread of each node.

@@ -100,63 +100,63 @@ added-narrows u v old new (Err m) h = tt
 pub led-narrows : (u v : ℕ) (g : GraphState) → LeadsTo (edges_of g) u v → IsNarrower (λ rank. rank u < rank v) g g
 led-narrows u v g (between, w) = narrower-same (λ rank. rank u < rank v) g (λ rank h. reaches-rises rank (edges_of g) u v h (walk-reaches (edges_of g) u between v w))
 
--- the lasts of a side from one place on, one place further down
+-- the last reads of a side from one place on, one place further down
 abbrev pub LastsHold : ℕ → List ℕ → (ℕ → ℕ) → Type 0
-LastsHold to lasts rank = All (λ l. AtMost rank l to) lasts
+LastsHold to last_reads rank = All (λ l. AtMost rank l to) last_reads
 
-pub last-more : (to : ℕ) (lasts : List ℕ) (k : ℕ) (rank : ℕ → ℕ) → k < length lasts → AtMost rank (get_or lasts k 0) to → LastsHold to (drop (k + 1) lasts) rank → LastsHold to (drop k lasts) rank
-last-more to lasts k rank l a h = rw (drop-cons lasts k 0 l) (All-cons (λ x. AtMost rank x to) (get_or lasts k 0) (drop (suc k) lasts) a (subst (λ (n : ℕ). LastsHold to (drop n lasts) rank) (add-one k) h))
+pub last-more : (to : ℕ) (last_reads : List ℕ) (k : ℕ) (rank : ℕ → ℕ) → k < length last_reads → AtMost rank (get_or last_reads k 0) to → LastsHold to (drop (k + 1) last_reads) rank → LastsHold to (drop k last_reads) rank
+last-more to last_reads k rank l a h = rw (drop-cons last_reads k 0 l) (All-cons (λ x. AtMost rank x to) (get_or last_reads k 0) (drop (suc k) last_reads) a (subst (λ (n : ℕ). LastsHold to (drop n last_reads) rank) (add-one k) h))
 
-pub last-less : (to : ℕ) (lasts : List ℕ) (k : ℕ) (rank : ℕ → ℕ) → k < length lasts → LastsHold to (drop k lasts) rank → AtMost rank (get_or lasts k 0) to × LastsHold to (drop (k + 1) lasts) rank
-last-less to lasts k rank l h =
-    let m : LastsHold to (get_or lasts k 0 ∷ drop (suc k) lasts) rank = subst (λ (xs : List ℕ). LastsHold to xs rank) (drop-cons lasts k 0 l) h in (
-      All-head (λ x. AtMost rank x to) (get_or lasts k 0) (drop (suc k) lasts) m,
-      subst (λ (n : ℕ). LastsHold to (drop n lasts) rank) (sym (add-one k)) (All-tail (λ x. AtMost rank x to) (get_or lasts k 0) (drop (suc k) lasts) m),
+pub last-less : (to : ℕ) (last_reads : List ℕ) (k : ℕ) (rank : ℕ → ℕ) → k < length last_reads → LastsHold to (drop k last_reads) rank → AtMost rank (get_or last_reads k 0) to × LastsHold to (drop (k + 1) last_reads) rank
+last-less to last_reads k rank l h =
+    let m : LastsHold to (get_or last_reads k 0 ∷ drop (suc k) last_reads) rank = subst (λ (xs : List ℕ). LastsHold to xs rank) (drop-cons last_reads k 0 l) h in (
+      All-head (λ x. AtMost rank x to) (get_or last_reads k 0) (drop (suc k) last_reads) m,
+      subst (λ (n : ℕ). LastsHold to (drop n last_reads) rank) (sym (add-one k)) (All-tail (λ x. AtMost rank x to) (get_or last_reads k 0) (drop (suc k) last_reads) m),
     )
 
 -- one more last is looked at: its edge was added, or it is the end itself
-pub side-step : (to left k : ℕ) (lasts : List ℕ) (old now new : GraphState) (added : Added) → left ≡ k + 1 → k < length lasts → (get_or lasts k 0 ≡ to → ⊥) →
-    IsNarrower (LastsHold to (drop left lasts)) old now → Narrows (λ rank. rank (get_or lasts k 0) < rank to) now (Ok added) new → added ≡ In →
-    IsNarrower (LastsHold to (drop k lasts)) old new
-side-step to left k lasts old now new added e l n one two is =
-    narrower-alike (λ rank. LastsHold to (drop left lasts) rank × (rank (get_or lasts k 0) < rank to)) (LastsHold to (drop k lasts)) old new
-    (λ rank p. last-more to lasts k rank l (inr p.1) (subst (λ (m : ℕ). LastsHold to (drop m lasts) rank) e p.0))
-    (λ rank p. let q = last-less to lasts k rank l p in (subst (λ (m : ℕ). LastsHold to (drop m lasts) rank) (sym e) q.1, below rank q.0))
-    (narrower-next (LastsHold to (drop left lasts)) (λ rank. rank (get_or lasts k 0) < rank to) old now new one
-    (subst (λ (a : Added). Narrows (λ rank. rank (get_or lasts k 0) < rank to) now (Ok a) new) is two))
+pub side-step : (to left k : ℕ) (last_reads : List ℕ) (old now new : GraphState) (added : Added) → left ≡ k + 1 → k < length last_reads → (get_or last_reads k 0 ≡ to → ⊥) →
+    IsNarrower (LastsHold to (drop left last_reads)) old now → Narrows (λ rank. rank (get_or last_reads k 0) < rank to) now (Ok added) new → added ≡ In →
+    IsNarrower (LastsHold to (drop k last_reads)) old new
+side-step to left k last_reads old now new added e l n one two is =
+    narrower-alike (λ rank. LastsHold to (drop left last_reads) rank × (rank (get_or last_reads k 0) < rank to)) (LastsHold to (drop k last_reads)) old new
+    (λ rank p. last-more to last_reads k rank l (inr p.1) (subst (λ (m : ℕ). LastsHold to (drop m last_reads) rank) e p.0))
+    (λ rank p. let q = last-less to last_reads k rank l p in (subst (λ (m : ℕ). LastsHold to (drop m last_reads) rank) (sym e) q.1, below rank q.0))
+    (narrower-next (LastsHold to (drop left last_reads)) (λ rank. rank (get_or last_reads k 0) < rank to) old now new one
+    (subst (λ (a : Added). Narrows (λ rank. rank (get_or last_reads k 0) < rank to) now (Ok a) new) is two))
   where
-    below : (rank : ℕ → ℕ) → AtMost rank (get_or lasts k 0) to → rank (get_or lasts k 0) < rank to
+    below : (rank : ℕ → ℕ) → AtMost rank (get_or last_reads k 0) to → rank (get_or last_reads k 0) < rank to
     below rank (inl q) = absurd (n q)
     below rank (inr q) = q
 
-pub side-skip : (to left k : ℕ) (lasts : List ℕ) (old now : GraphState) → left ≡ k + 1 → k < length lasts → get_or lasts k 0 ≡ to →
-    IsNarrower (LastsHold to (drop left lasts)) old now → IsNarrower (LastsHold to (drop k lasts)) old now
-side-skip to left k lasts old now e l q one =
-    narrower-alike (LastsHold to (drop left lasts)) (LastsHold to (drop k lasts)) old now
-    (λ rank p. last-more to lasts k rank l (inl q) (subst (λ (m : ℕ). LastsHold to (drop m lasts) rank) e p))
-    (λ rank p. subst (λ (m : ℕ). LastsHold to (drop m lasts) rank) (sym e) (last-less to lasts k rank l p).1) one
+pub side-skip : (to left k : ℕ) (last_reads : List ℕ) (old now : GraphState) → left ≡ k + 1 → k < length last_reads → get_or last_reads k 0 ≡ to →
+    IsNarrower (LastsHold to (drop left last_reads)) old now → IsNarrower (LastsHold to (drop k last_reads)) old now
+side-skip to left k last_reads old now e l q one =
+    narrower-alike (LastsHold to (drop left last_reads)) (LastsHold to (drop k last_reads)) old now
+    (λ rank p. last-more to last_reads k rank l (inl q) (subst (λ (m : ℕ). LastsHold to (drop m last_reads) rank) e p))
+    (λ rank p. subst (λ (m : ℕ). LastsHold to (drop m last_reads) rank) (sym e) (last-less to last_reads k rank l p).1) one
 
 -- its edge closes a cycle
-pub side-cycle : (to left k : ℕ) (lasts : List ℕ) (old now new : GraphState) (added : Added) → left ≡ k + 1 → k < length lasts → (get_or lasts k 0 ≡ to → ⊥) →
-    IsNarrower (LastsHold to (drop left lasts)) old now → Narrows (λ rank. rank (get_or lasts k 0) < rank to) now (Ok added) new → added ≡ Cycle →
-    (rank : ℕ → ℕ) → Holds rank (edges_of old) → Holds rank (edges_to lasts to) → ⊥
-side-cycle to left k lasts old now new added e l n one two is rank h s =
-    let all : LastsHold to lasts rank = holds-side rank lasts to s in
-    let none : (r : ℕ → ℕ) → Holds r (edges_of now) → r (get_or lasts k 0) < r to → ⊥ = subst (λ (a : Added). Narrows (λ r. r (get_or lasts k 0) < r to) now (Ok a) new) is two in
-    go (none rank (one.all rank h (All-drop (λ x. AtMost rank x to) left lasts all))) (All-get_or (λ x. AtMost rank x to) lasts k 0 l all)
+pub side-cycle : (to left k : ℕ) (last_reads : List ℕ) (old now new : GraphState) (added : Added) → left ≡ k + 1 → k < length last_reads → (get_or last_reads k 0 ≡ to → ⊥) →
+    IsNarrower (LastsHold to (drop left last_reads)) old now → Narrows (λ rank. rank (get_or last_reads k 0) < rank to) now (Ok added) new → added ≡ Cycle →
+    (rank : ℕ → ℕ) → Holds rank (edges_of old) → Holds rank (edges_to last_reads to) → ⊥
+side-cycle to left k last_reads old now new added e l n one two is rank h s =
+    let all : LastsHold to last_reads rank = holds-side rank last_reads to s in
+    let none : (r : ℕ → ℕ) → Holds r (edges_of now) → r (get_or last_reads k 0) < r to → ⊥ = subst (λ (a : Added). Narrows (λ r. r (get_or last_reads k 0) < r to) now (Ok a) new) is two in
+    go (none rank (one.all rank h (All-drop (λ x. AtMost rank x to) left last_reads all))) (All-get_or (λ x. AtMost rank x to) last_reads k 0 l all)
   where
-    go : (rank (get_or lasts k 0) < rank to → ⊥) → AtMost rank (get_or lasts k 0) to → ⊥
+    go : (rank (get_or last_reads k 0) < rank to → ⊥) → AtMost rank (get_or last_reads k 0) to → ⊥
     go none (inl q) = n q
     go none (inr r) = none r
 
-pub side-all : (to left : ℕ) (lasts : List ℕ) (old now : GraphState) → left ≡ 0 → IsNarrower (LastsHold to (drop left lasts)) old now → IsNarrower (λ rank. Holds rank (edges_to lasts to)) old now
-side-all to left lasts old now e one = narrower-alike (LastsHold to (drop left lasts)) (λ rank. Holds rank (edges_to lasts to)) old now
-    (λ rank p. side-holds rank lasts to (subst (λ (m : ℕ). LastsHold to (drop m lasts) rank) e p))
-    (λ rank p. subst (λ (m : ℕ). LastsHold to (drop m lasts) rank) (sym e) (holds-side rank lasts to p)) one
+pub side-all : (to left : ℕ) (last_reads : List ℕ) (old now : GraphState) → left ≡ 0 → IsNarrower (LastsHold to (drop left last_reads)) old now → IsNarrower (λ rank. Holds rank (edges_to last_reads to)) old now
+side-all to left last_reads old now e one = narrower-alike (LastsHold to (drop left last_reads)) (λ rank. Holds rank (edges_to last_reads to)) old now
+    (λ rank p. side-holds rank last_reads to (subst (λ (m : ℕ). LastsHold to (drop m last_reads) rank) e p))
+    (λ rank p. subst (λ (m : ℕ). LastsHold to (drop m last_reads) rank) (sym e) (holds-side rank last_reads to p)) one
 
-pub side-none : (to left : ℕ) (lasts : List ℕ) (g : GraphState) → left ≡ length lasts → IsNarrower (LastsHold to (drop left lasts)) g g
-side-none to left lasts g e = narrower-same (LastsHold to (drop left lasts)) g (λ rank h.
-    let n : drop left lasts ≡ [] = drop_of_length-le lasts (let q = sym e in omega (arith, q)) in
+pub side-none : (to left : ℕ) (last_reads : List ℕ) (g : GraphState) → left ≡ length last_reads → IsNarrower (LastsHold to (drop left last_reads)) g g
+side-none to left last_reads g e = narrower-same (LastsHold to (drop left last_reads)) g (λ rank h.
+    let n : drop left last_reads ≡ [] = drop_of_length-le last_reads (let q = sym e in omega (arith, q)) in
     subst (λ (xs : List ℕ). LastsHold to xs rank) (sym n) (All-nil (λ x. AtMost rank x to)))
 
 -- an open side that was added

@@ -16,7 +16,7 @@ use Rattle.constraints.specs.Constraints.{edges_to, pairs_among}
 use Rattle.order_solver.specs.Rivals.{Rivalry, AreRivals, source_at, pair_in, pairs_from, edges_in, problem_in}
 use Rattle.order_solver.specs.Cursors.{Chained}
 use Rattle.order_solver.specs.Sides.{IsNarrower}
-use Rattle.order_solver.specs.Begun.{HoldsRuns, IsBegun}
+use Rattle.order_solver.specs.Begun.{HoldsRuns, HoldsWords, IsBegun}
 use Rattle.order_solver.proofs.Windows.{source-before, starts-rise}
 
 abbrev pub edge_at : List Edge → ℕ → Edge
@@ -39,15 +39,15 @@ edges-less rank edges k l h = (
 
 -- up to one place
 abbrev pub ChainedTo : Rivalry → (ℕ → ℕ) → ℕ → ℕ → ℕ → ℕ → Type 0
-ChainedTo r rank word from end at = (k : ℕ) → from ≤ k → k < at → k + 1 < end → Holds rank (edges_to (r.lasts word (source_at r word k)) (source_at r word (k + 1)))
+ChainedTo r rank word from end at = (k : ℕ) → from ≤ k → k < at → k + 1 < end → Holds rank (edges_to (r.last_reads word (source_at r word k)) (source_at r word (k + 1)))
 
 pub chained-more : (r : Rivalry) (rank : ℕ → ℕ) (word from end at : ℕ) → ChainedTo r rank word from end at →
-    Holds rank (edges_to (r.lasts word (source_at r word at)) (source_at r word (at + 1))) → ChainedTo r rank word from end (at + 1)
+    Holds rank (edges_to (r.last_reads word (source_at r word at)) (source_at r word (at + 1))) → ChainedTo r rank word from end (at + 1)
 chained-more r rank word from end at h e k a b c = go (cases_lt k at)
   where
-    go : (k < at) ⊎ (at ≤ k) → Holds rank (edges_to (r.lasts word (source_at r word k)) (source_at r word (k + 1)))
+    go : (k < at) ⊎ (at ≤ k) → Holds rank (edges_to (r.last_reads word (source_at r word k)) (source_at r word (k + 1)))
     go (inl l) = h k a l c
-    go (inr m) = let q : at ≡ k = omega arith in subst (λ (n : ℕ). Holds rank (edges_to (r.lasts word (source_at r word n)) (source_at r word (n + 1)))) q e
+    go (inr m) = let q : at ≡ k = omega arith in subst (λ (n : ℕ). Holds rank (edges_to (r.last_reads word (source_at r word n)) (source_at r word (n + 1)))) q e
 
 pub runs-more : (r : Rivalry) (rank : ℕ → ℕ) (word t : ℕ) → HoldsRuns r rank word t → Chained r rank word (r.start word t) (r.start word (t + 1)) → HoldsRuns r rank word (t + 1)
 runs-more r rank word t h e u l = go (cases_lt u t)
@@ -55,9 +55,6 @@ runs-more r rank word t h e u l = go (cases_lt u t)
     go : (u < t) ⊎ (t ≤ u) → Chained r rank word (r.start word u) (r.start word (u + 1))
     go (inl m) = h u m
     go (inr m) = let q : t ≡ u = omega arith in subst (λ (n : ℕ). Chained r rank word (r.start word n) (r.start word (n + 1))) q e
-
-abbrev pub HoldsWords : Rivalry → (ℕ → ℕ) → ℕ → Type 0
-HoldsWords r rank words = (w : ℕ) → w < words → HoldsRuns r rank w (length r.counts)
 
 pub words-more : (r : Rivalry) (rank : ℕ → ℕ) (word : ℕ) → HoldsWords r rank word → HoldsRuns r rank word (length r.counts) → HoldsWords r rank (word + 1)
 words-more r rank word h e w l = go (cases_lt w word)
@@ -104,7 +101,7 @@ solves-runs r rank are s w lw t lt k a b = go (All-contains (HoldsOneSide rank) 
         let e = ap (r.start w) m in
         let z = are.end w lw in omega (arith, q, e, z, b)
 
-    go : HoldsOneSide rank (pair_in r w (source_at r w k) (source_at r w (k + 1))) → Holds rank (edges_to (r.lasts w (source_at r w k)) (source_at r w (k + 1)))
+    go : HoldsOneSide rank (pair_in r w (source_at r w k) (source_at r w (k + 1))) → Holds rank (edges_to (r.last_reads w (source_at r w k)) (source_at r w (k + 1)))
     go (inl h) = h
     go (inr h) =
         let up : rank (source_at r w k) < rank (source_at r w (k + 1)) = are.rising rank w t k (k + 1) s.base lw lt a (omega arith) b in
@@ -154,8 +151,8 @@ base-nodes r g base are c q = subst (λ (xs : List Edge). All (λ (e : Edge). (e
     (λ e m. let (u, v) = are.base e m in let s = ap sum c in (omega (arith, u, s), omega (arith, v, s))) r.base (All-contains_itself r.base))
 
 -- a side in other words
-pub side-is : (rank : ℕ → ℕ) (lasts lasts' : List ℕ) (to to' : ℕ) → lasts ≡ lasts' → to ≡ to' → Holds rank (edges_to lasts to) → Holds rank (edges_to lasts' to')
-side-is rank lasts lasts' to to' e q h = subst (λ (n : ℕ). Holds rank (edges_to lasts' n)) q (subst (λ (xs : List ℕ). Holds rank (edges_to xs to)) e h)
+pub side-is : (rank : ℕ → ℕ) (last_reads last_reads' : List ℕ) (to to' : ℕ) → last_reads ≡ last_reads' → to ≡ to' → Holds rank (edges_to last_reads to) → Holds rank (edges_to last_reads' to')
+side-is rank last_reads last_reads' to to' e q h = subst (λ (n : ℕ). Holds rank (edges_to last_reads' n)) q (subst (λ (xs : List ℕ). Holds rank (edges_to xs to)) e h)
 
 pub run-within : (r : Rivalry) (word t end : ℕ) → AreRivals r → word < r.words → t < length r.counts → end ≡ r.start word (t + 1) → end ≤ length (r.sources word)
 run-within r word t end are lw lt e =

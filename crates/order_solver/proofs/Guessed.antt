@@ -29,22 +29,22 @@ use Rattle.order_judge.proofs.Judged.{edges-fit}
 use Rattle.order_solver.proofs.Testing.{side-holds}
 use Rattle.order_solver.proofs.Windows.{source-in}
 
--- a read is of a word, a source of it, and one of its lasts
-pub of_reads : (r : Rivalry) (x : Read) → Contains (reads_in r) x → (x.word < r.words) × Contains (r.sources x.word) x.source × Contains (r.lasts x.word x.source) x.last
+-- a read is of a word, a source of it, and one of its last reads
+pub of_reads : (r : Rivalry) (x : Read) → Contains (reads_in r) x → (x.word < r.words) × Contains (r.sources x.word) x.source × Contains (r.last_reads x.word x.source) x.last
 unfolding reads_in
 of_reads r x c =
     let (w, in_words, m) = of_flat_map (reads_at r) (range_with_len 0 r.words) x c in
-    let (s, in_sources, n) = of_flat_map (λ s. reads_of w s (r.lasts w s)) (r.sources w) x m in
-    let (l, in_lasts, e) = of_map (read w s) (r.lasts w s) x n in
-    let P : Read → Type 0 = λ y. (y.word < r.words) × Contains (r.sources y.word) y.source × Contains (r.lasts y.word y.source) y.last in
+    let (s, in_sources, n) = of_flat_map (λ s. reads_of w s (r.last_reads w s)) (r.sources w) x m in
+    let (l, in_last_reads, e) = of_map (read w s) (r.last_reads w s) x n in
+    let P : Read → Type 0 = λ y. (y.word < r.words) × Contains (r.sources y.word) y.source × Contains (r.last_reads y.word y.source) y.last in
     let below = of_range 0 r.words w in_words in
-    subst P e (omega (arith, below), in_sources, in_lasts)
+    subst P e (omega (arith, below), in_sources, in_last_reads)
 
-pub in_reads : (r : Rivalry) (word s l : ℕ) → word < r.words → Contains (r.sources word) s → Contains (r.lasts word s) l → Contains (reads_in r) (read word s l)
+pub in_reads : (r : Rivalry) (word s l : ℕ) → word < r.words → Contains (r.sources word) s → Contains (r.last_reads word s) l → Contains (reads_in r) (read word s l)
 unfolding reads_in
 in_reads r word s l w a b =
     in_flat_map (reads_at r) (range_with_len 0 r.words) word (read word s l) (in_range 0 r.words word (omega arith) (omega arith))
-    (in_flat_map (λ s. reads_of word s (r.lasts word s)) (r.sources word) s (read word s l) a (in_map (read word s) (r.lasts word s) l b))
+    (in_flat_map (λ s. reads_of word s (r.last_reads word s)) (r.sources word) s (read word s l) a (in_map (read word s) (r.last_reads word s) l b))
 
 -- the pairs of a list are each of an earlier and a later element
 of_pairs_among : (f : ℕ → ℕ → Pair) (xs : List ℕ) (p : Pair) → Contains (pairs_among f xs) p → (i : ℕ) × (j : ℕ) × (i < j) × (j < length xs) × (f (get_or xs i 0) (get_or xs j 0) ≡ p)
@@ -65,9 +65,9 @@ none_or_some (x ∷ xs) = inr (x, (zero, omega arith, refl))
 
 -- where the reads of one source are over before the other stands, that side of the pair holds
 side_over : (r : Rivalry) (order : List ℕ) (word s t : ℕ) → AreRivals r → IsOrder (sum r.counts) order → word < r.words → Contains (r.sources word) s → Contains (r.sources word) t →
-    ((l : ℕ) → Contains (r.lasts word s) l → place order l ≤ place order t) → Holds (place order) (edges_to (r.lasts word s) t)
+    ((l : ℕ) → Contains (r.last_reads word s) l → place order l ≤ place order t) → Holds (place order) (edges_to (r.last_reads word s) t)
 side_over r order word s t rules once w a b over =
-    side-holds (place order) (r.lasts word s) t (All-from (λ l. AtMost (place order) l t) (r.lasts word s) (λ l m. at_most l (rules.last word s l w a m) (over l m) (cases_lt (place order l) (place order t))))
+    side-holds (place order) (r.last_reads word s) t (All-from (λ l. AtMost (place order) l t) (r.last_reads word s) (λ l m. at_most l (rules.last word s l w a m) (over l m) (cases_lt (place order l) (place order t))))
   where
     at_most : (l : ℕ) → l < sum r.counts → place order l ≤ place order t → (place order l < place order t) ⊎ (place order t ≤ place order l) → AtMost (place order) l t
     at_most l n m (inl k) = inr k
@@ -76,21 +76,21 @@ side_over r order word s t rules once w a b over =
 -- under the places of a row that the judge lets stand one side of each pair holds
 one_side : (r : Rivalry) (order : List ℕ) (word s t : ℕ) → AreRivals r → Respects r.counts r.base (reads_in r) order → word < r.words → Contains (r.sources word) s → Contains (r.sources word) t →
     (s ≡ t → ⊥) → HoldsOneSide (place order) (pair_in r word s t)
-one_side r order word s t rules judged w a b apart = go (none_or_some (r.lasts word s)) (none_or_some (r.lasts word t))
+one_side r order word s t rules judged w a b apart = go (none_or_some (r.last_reads word s)) (none_or_some (r.last_reads word t))
   where
-    none : (lasts : List ℕ) (to : ℕ) → lasts ≡ [] → Holds (place order) (edges_to lasts to)
-    none lasts to e = subst (λ (ls : List ℕ). Holds (place order) (edges_to ls to)) (sym e) (All-nil (λ (e : Edge). place order e.from < place order e.to))
+    none : (last_reads : List ℕ) (to : ℕ) → last_reads ≡ [] → Holds (place order) (edges_to last_reads to)
+    none last_reads to e = subst (λ (ls : List ℕ). Holds (place order) (edges_to ls to)) (sym e) (All-nil (λ (e : Edge). place order e.from < place order e.to))
 
-    over : (x y : ℕ) (l m : ℕ) → Contains (r.sources word) x → IsOver (reads_in r) order (read word x l) (read word y m) → (k : ℕ) → Contains (r.lasts word x) k → place order k ≤ place order y
+    over : (x y : ℕ) (l m : ℕ) → Contains (r.sources word) x → IsOver (reads_in r) order (read word x l) (read word y m) → (k : ℕ) → Contains (r.last_reads word x) k → place order k ≤ place order y
     over x y l m c o k d = o (read word x k) (in_reads r word x k w c d) refl refl
 
     turn : (l m : ℕ) → IsOver (reads_in r) order (read word s l) (read word t m) ⊎ IsOver (reads_in r) order (read word t m) (read word s l) → HoldsOneSide (place order) (pair_in r word s t)
     turn l m (inl o) = inl (side_over r order word s t rules judged.each_once w a b (over s t l m a o))
     turn l m (inr o) = inr (side_over r order word t s rules judged.each_once w b a (over t s m l b o))
 
-    go : (r.lasts word s ≡ []) ⊎ ((l : ℕ) × Contains (r.lasts word s) l) → (r.lasts word t ≡ []) ⊎ ((l : ℕ) × Contains (r.lasts word t) l) → HoldsOneSide (place order) (pair_in r word s t)
-    go (inl e) other = inl (none (r.lasts word s) t e)
-    go (inr (l, c)) (inl e) = inr (none (r.lasts word t) s e)
+    go : (r.last_reads word s ≡ []) ⊎ ((l : ℕ) × Contains (r.last_reads word s) l) → (r.last_reads word t ≡ []) ⊎ ((l : ℕ) × Contains (r.last_reads word t) l) → HoldsOneSide (place order) (pair_in r word s t)
+    go (inl e) other = inl (none (r.last_reads word s) t e)
+    go (inr (l, c)) (inl e) = inr (none (r.last_reads word t) s e)
     go (inr (l, c)) (inr (m, d)) = turn l m (judged.turns (read word s l) (read word t m) (in_reads r word s l w a c) (in_reads r word t m w b d) refl apart)
 
 -- each pair is of two sources of a word
@@ -116,11 +116,11 @@ Fits count e = (e.from < count) × (e.to < count)
 abbrev PairFits : ℕ → Pair → Type 0
 PairFits count pair = All (Fits count) pair.lesser × All (Fits count) pair.greater
 
-side-fits : (count : ℕ) (lasts : List ℕ) (to : ℕ) → ((l : ℕ) → Contains lasts l → l < count) → to < count → All (Fits count) (edges_to lasts to)
-side-fits count lasts to within t = All-from (Fits count) (edges_to lasts to) (λ e c. fits e (of_map (λ l. arrow l to) (filter (λ l. not (eqb l to)) lasts) e c))
+side-fits : (count : ℕ) (last_reads : List ℕ) (to : ℕ) → ((l : ℕ) → Contains last_reads l → l < count) → to < count → All (Fits count) (edges_to last_reads to)
+side-fits count last_reads to within t = All-from (Fits count) (edges_to last_reads to) (λ e c. fits e (of_map (λ l. arrow l to) (filter (λ l. not (eqb l to)) last_reads) e c))
   where
-    fits : (e : Edge) → (l : ℕ) × Contains (filter (λ l. not (eqb l to)) lasts) l × (arrow l to ≡ e) → Fits count e
-    fits e (l, c, same) = subst (Fits count) same (within l (of_filter (λ l. not (eqb l to)) lasts l c).0, t)
+    fits : (e : Edge) → (l : ℕ) × Contains (filter (λ l. not (eqb l to)) last_reads) l × (arrow l to ≡ e) → Fits count e
+    fits e (l, c, same) = subst (Fits count) same (within l (of_filter (λ l. not (eqb l to)) last_reads l c).0, t)
 
 pairs-fit : (r : Rivalry) → AreRivals r → All (PairFits (sum r.counts)) (pairs_from r 0 r.words)
 pairs-fit r rules = All-from (PairFits (sum r.counts)) (pairs_from r 0 r.words) (λ p c. fits p (of_pairs r p c))
@@ -130,8 +130,8 @@ pairs-fit r rules = All-from (PairFits (sum r.counts)) (pairs_from r 0 r.words) 
         let s = source-in r word i (omega (arith, a, b)) in
         let t = source-in r word j b in
         subst (PairFits (sum r.counts)) e (
-          side-fits (sum r.counts) (r.lasts word (source_at r word i)) (source_at r word j) (λ l m. rules.last word (source_at r word i) l w s m) (rules.source word (source_at r word j) w t),
-          side-fits (sum r.counts) (r.lasts word (source_at r word j)) (source_at r word i) (λ l m. rules.last word (source_at r word j) l w t m) (rules.source word (source_at r word i) w s),
+          side-fits (sum r.counts) (r.last_reads word (source_at r word i)) (source_at r word j) (λ l m. rules.last word (source_at r word i) l w s m) (rules.source word (source_at r word j) w t),
+          side-fits (sum r.counts) (r.last_reads word (source_at r word j)) (source_at r word i) (λ l m. rules.last word (source_at r word j) l w t m) (rules.source word (source_at r word i) w s),
         )
 
 -- edges between nodes that hold under a ranking, and ask for all that edges and pairs ask for
@@ -191,7 +191,7 @@ reads-fit r counts reads rules e f =
     Within : List ℕ → List Read → Type 0
     Within cs xs = All (WithinAt cs) xs
 
-    within : (x : Read) → (x.word < r.words) × Contains (r.sources x.word) x.source × Contains (r.lasts x.word x.source) x.last → WithinAt r.counts x
+    within : (x : Read) → (x.word < r.words) × Contains (r.sources x.word) x.source × Contains (r.last_reads x.word x.source) x.last → WithinAt r.counts x
     within x (w, s, l) = (rules.source x.word x.source w s, rules.last x.word x.source x.last w s l)
 
 pub judged-given : (r : Rivalry) (counts : List ℕ) (base : List Edge) (reads : List Read) (order : List ℕ) → AreRivals r → counts ≡ r.counts → base ≡ r.base → reads ≡ reads_in r →

@@ -15,4 +15,3 @@ pub mod Forced
 pub mod Rooms
 pub mod Spending
 pub mod Memories
-pub mod Costs

@@ -1,4 +1,4 @@
--- Sources and their lasts are nodes of the graph.
+-- Sources and their last reads are nodes of the graph.
 use Rattle.std.proofs.Common.{◌≡◌, ℕ, ◌<◌, List, sum, length, get_or, sym, ap, subst, arith}
 use Rattle.std.specs.Prelude.{All, Contains}
 use Rattle.std.proofs.lemmas.List.Elements.{All-contains_itself, All-weaker, Contains-get_or}
@@ -13,10 +13,10 @@ source-node r g word i sources are counts w l is =
     let q = ap (λ (xs : List ℕ). get_or xs i 0) is in
     omega (arith, n, e, q)
 
-pub lasts-nodes : (r : Rivalry) (g : GraphState) (word i : ℕ) (lasts : List ℕ) → AreRivals r → g.counts ≡ r.counts → word < r.words → i < length (r.sources word) →
-    lasts ≡ r.lasts word (source_at r word i) → All (λ l. l < nodes_of g) lasts
-lasts-nodes r g word i lasts are counts w l is =
+pub last_reads-nodes : (r : Rivalry) (g : GraphState) (word i : ℕ) (last_reads : List ℕ) → AreRivals r → g.counts ≡ r.counts → word < r.words → i < length (r.sources word) →
+    last_reads ≡ r.last_reads word (source_at r word i) → All (λ l. l < nodes_of g) last_reads
+last_reads-nodes r g word i last_reads are counts w l is =
     subst (λ (xs : List ℕ). All (λ x. x < nodes_of g) xs) (sym is)
-    (All-weaker (Contains (r.lasts word (source_at r word i))) (λ x. x < nodes_of g)
+    (All-weaker (Contains (r.last_reads word (source_at r word i))) (λ x. x < nodes_of g)
     (λ x m. let n = are.last word (source_at r word i) x w (Contains-get_or (r.sources word) i 0 l) m in let e = ap sum counts in omega (arith, n, e))
-    (r.lasts word (source_at r word i)) (All-contains_itself (r.lasts word (source_at r word i))))
+    (r.last_reads word (source_at r word i)) (All-contains_itself (r.last_reads word (source_at r word i))))

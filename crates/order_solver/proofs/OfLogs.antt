@@ -13,7 +13,7 @@ use Rattle.plain_search.proofs.Rankings.{Holds-split}
 use Rattle.replay_model.specs.Logs.{Log}
 use Rattle.replay_model.specs.WellFormed.{IsWellFormed}
 use Rattle.constraints.specs.Positions.{event_list, event_at, position_of, counts_of}
-use Rattle.constraints.specs.Constraints.{sources_of, lasts_from, base_of, is_source_of, is_last_of}
+use Rattle.constraints.specs.Constraints.{sources_of, last_reads_from, base_of, is_source_of, is_last_of}
 use Rattle.constraints.proofs.Listed.{Before, event_there, of_list, event_taken, position-event, before_from, of_positions}
 use Rattle.constraints.proofs.Rivals.{sources-rising}
 use Rattle.constraints.proofs.Shapes.{counts-sum, edges_are_within, sides_exclude}
@@ -27,8 +27,8 @@ pub source-below : (log : Log) (word s : ℕ) → Contains (sources_of log word)
 unfolding sources_of
 source-below log word s c = (of_positions log (is_source_of log word) s c).0
 
-pub last-below : (log : Log) (word s l : ℕ) → Contains (lasts_from log word s) l → l < length (event_list log)
-unfolding lasts_from
+pub last-below : (log : Log) (word s l : ℕ) → Contains (last_reads_from log word s) l → l < length (event_list log)
+unfolding last_reads_from
 last-below log word s l c = (of_positions log (is_last_of log word (Some (event_at log s))) l c).0
 
 pub counts-length : (log : Log) → length (counts_of log) ≡ length log.threads

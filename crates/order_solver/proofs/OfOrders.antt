@@ -51,7 +51,7 @@ named_by log formed t l =
 named : (log : Log) → IsWellFormed log → length (mentioned_tags log) ≤ 741376
 named log formed =
     let f : ℕ → List Tag = λ t. flat_map (mentioned_by t) (thread_of log t).entries in
-    let a = length-append (flat_map (λ t. flat_map (mentioned_by t) (thread_of log t).entries) (thread_numbers log)) log.lasts in
+    let a = length-append (flat_map (λ t. flat_map (mentioned_by t) (thread_of log t).entries) (thread_numbers log)) log.last_tags in
     let b = length-flat_map (λ t. flat_map (mentioned_by t) (thread_of log t).entries) (thread_numbers log) in
     let c = sum_by-le (λ t. length (flat_map (mentioned_by t) (thread_of log t).entries)) 49152 (thread_numbers log)
     (All-from (λ t. length (flat_map (mentioned_by t) (thread_of log t).entries) ≤ 49152) (thread_numbers log)

@@ -9,10 +9,11 @@ use Rattle.plain_search.specs.Searches.{Pair}
 use Rattle.plain_search.proofs.Rankings.{Rises, Holds-split}
 use Rattle.order_graph.specs.Graphs.{GraphState, edges_of}
 use Rattle.order_solver.specs.Rivals.{Rivalry, pairs_from, problem_in}
-use Rattle.order_solver.specs.Rooms.{cost_of, costs_of, IsDecided, HaveCost, HasRoom, SpendsAtMost, LacksRoom}
+use Rattle.constraints.specs.Constraints.{longer_side, longer_sides}
+use Rattle.order_solver.specs.Rooms.{IsDecided, HaveCost, HasRoom, SpendsAtMost, LacksRoom}
 
-costs-cons : (pair : Pair) (pairs : List Pair) → costs_of (pair ∷ pairs) ≡ cost_of pair + costs_of pairs
-costs-cons pair pairs = sum_by-cons cost_of pair pairs
+costs-cons : (pair : Pair) (pairs : List Pair) → longer_sides (pair ∷ pairs) ≡ longer_side pair + longer_sides pairs
+costs-cons pair pairs = sum_by-cons longer_side pair pairs
 
 decided-more : (edges others : List Edge) (pair : Pair) → Implies others edges → IsDecided edges pair → IsDecided others pair
 decided-more edges others pair by (inl h) = inl (λ rank k. h rank (by rank k))
@@ -27,7 +28,7 @@ cost-more edges others [] cost by h = h
 cost-more edges others (pair ∷ pairs) cost by (inl h) = inl (cost-more edges others pairs cost by h)
 cost-more edges others (pair ∷ pairs) cost by (inr (d, rest, e, h)) = inr (decided-more edges others pair by d, rest, e, cost-more edges others pairs rest by h)
 
-pub cost-within : (edges : List Edge) (pairs : List Pair) (cost : ℕ) → HaveCost edges pairs cost → cost ≤ costs_of pairs
+pub cost-within : (edges : List Edge) (pairs : List Pair) (cost : ℕ) → HaveCost edges pairs cost → cost ≤ longer_sides pairs
 cost-within edges [] cost h = omega (arith, h)
 cost-within edges (pair ∷ pairs) cost (inl h) = let a = cost-within edges pairs cost h in let b = costs-cons pair pairs in omega (arith, a, b)
 cost-within edges (pair ∷ pairs) cost (inr (d, rest, e, h)) = let a = cost-within edges pairs rest h in let b = costs-cons pair pairs in omega (arith, a, b, e)
@@ -43,22 +44,22 @@ first-or first pair pairs c = go (Contains-append_cases (first ∷ []) pairs pai
 
 -- one more pair is decided
 pub cost-one : (edges others : List Edge) (pairs : List Pair) (pair : Pair) (cost : ℕ) → Implies others edges → Contains pairs pair → (IsDecided edges pair → ⊥) → IsDecided others pair →
-    HaveCost edges pairs cost → HaveCost others pairs (cost + cost_of pair)
+    HaveCost edges pairs cost → HaveCost others pairs (cost + longer_side pair)
 cost-one edges others [] pair cost by c loose now h = absurd (let l = c.1 in omega (arith, l))
 cost-one edges others (first ∷ pairs) pair cost by c loose now h = go (λ n m k. cost-one edges others pairs pair n by m loose now k) (first-or first pair pairs c) h
   where
-    go : ((n : ℕ) → Contains pairs pair → HaveCost edges pairs n → HaveCost others pairs (n + cost_of pair)) → (first ≡ pair) ⊎ Contains pairs pair → HaveCost edges (first ∷ pairs) cost → HaveCost others (first ∷ pairs) (cost + cost_of pair)
-    go ih (inl e) (inl k) = inr (subst (IsDecided others) (sym e) now, cost, ap (λ (p : Pair). cost + cost_of p) (sym e), cost-more edges others pairs cost by k)
+    go : ((n : ℕ) → Contains pairs pair → HaveCost edges pairs n → HaveCost others pairs (n + longer_side pair)) → (first ≡ pair) ⊎ Contains pairs pair → HaveCost edges (first ∷ pairs) cost → HaveCost others (first ∷ pairs) (cost + longer_side pair)
+    go ih (inl e) (inl k) = inr (subst (IsDecided others) (sym e) now, cost, ap (λ (p : Pair). cost + longer_side p) (sym e), cost-more edges others pairs cost by k)
     go ih (inl e) (inr (d, rest, q, k)) = absurd (loose (subst (IsDecided edges) e d))
     go ih (inr m) (inl k) = inl (ih cost m k)
-    go ih (inr m) (inr (d, rest, q, k)) = inr (decided-more edges others first by d, rest + cost_of pair, omega (arith, q), ih rest m k)
+    go ih (inr m) (inr (d, rest, q, k)) = inr (decided-more edges others first by d, rest + longer_side pair, omega (arith, q), ih rest m k)
 
 -- a pair that is not decided costs something
 no-side : (edges : List Edge) (side : List Edge) → (Implies edges side → ⊥) → 1 ≤ length side
 no-side edges [] h = absurd (h (λ rank k. All-nil (Rises rank)))
 no-side edges (e ∷ side) h = omega arith
 
-pub costs-one : (edges : List Edge) (pair : Pair) → (IsDecided edges pair → ⊥) → 1 ≤ cost_of pair
+pub costs-one : (edges : List Edge) (pair : Pair) → (IsDecided edges pair → ⊥) → 1 ≤ longer_side pair
 costs-one edges pair loose = let a = no-side edges pair.lesser (λ h. loose (inl h)) in omega (arith, a)
 
 pub fewer-fit : (r : Rivalry) (memory frames : ℕ) (g : GraphState) → HasRoom r memory (frames + 1) g → HasRoom r memory frames g
@@ -69,10 +70,10 @@ fewer-fit r memory frames g h = record {
 
 -- a side of a pair was taken that was not decided before
 pub took-room : (r : Rivalry) (memory frames count : ℕ) (pair : Pair) (old new : GraphState) → Contains (problem_in r).pairs pair → (IsDecided (edges_of old) pair → ⊥) → IsDecided (edges_of new) pair →
-    Implies (edges_of new) (edges_of old) → SpendsAtMost count old new → count ≤ cost_of pair → HasRoom r memory frames old → HasRoom r memory (frames + 1) new
+    Implies (edges_of new) (edges_of old) → SpendsAtMost count old new → count ≤ longer_side pair → HasRoom r memory frames old → HasRoom r memory (frames + 1) new
 took-room r memory frames count pair old new there loose now by spends few h = record {
   fits = record {
-    cost = h.fits.cost + cost_of pair;
+    cost = h.fits.cost + longer_side pair;
     decided = cost-one (edges_of old) (edges_of new) (pairs_from r 0 r.words) pair h.fits.cost by there loose now h.fits.decided;
     few = (let a = h.fits.few in let b = costs-one (edges_of old) pair loose in omega (arith, a, b));
     enough = (let a = h.fits.enough in let b = spends.added in omega (arith, a, b, few));
@@ -81,12 +82,12 @@ took-room r memory frames count pair old new there loose now by spends few h = r
 }
 
 -- there is memory for it
-pub spent-room : (r : Rivalry) (count : ℕ) (pair : Pair) (g : GraphState) → Contains (problem_in r).pairs pair → (IsDecided (edges_of g) pair → ⊥) → count ≤ cost_of pair → g.spare < count → LacksRoom r g
+pub spent-room : (r : Rivalry) (count : ℕ) (pair : Pair) (g : GraphState) → Contains (problem_in r).pairs pair → (IsDecided (edges_of g) pair → ⊥) → count ≤ longer_side pair → g.spare < count → LacksRoom r g
 spent-room r count pair g there loose few short memory frames h =
     let more : List Edge = pair.lesser ++ edges_of g in
     let k = cost-one (edges_of g) more (pairs_from r 0 r.words) pair h.fits.cost (λ rank x. (Holds-split rank pair.lesser (edges_of g) x).1) there loose
     (inl (λ rank x. (Holds-split rank pair.lesser (edges_of g) x).0)) h.fits.decided in
-    let a = cost-within more (pairs_from r 0 r.words) (h.fits.cost + cost_of pair) k in
+    let a = cost-within more (pairs_from r 0 r.words) (h.fits.cost + longer_side pair) k in
     let b = h.fits.enough in
     let s = h.spare in absurd (omega (arith, a, b, s, few, short))
 

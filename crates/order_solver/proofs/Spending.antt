@@ -41,62 +41,62 @@ adds-short u v old new (Ok a) h = tt
 adds-short u v old new (Err m) h = let e = h.0 in omega (arith, e)
 
 -- one last more is one edge more, if it is not the end itself
-one-more : (l to : ℕ) (lasts : List ℕ) → (l ≡ to → ⊥) → length (edges_to (l ∷ lasts) to) ≡ suc (length (edges_to lasts to))
-one-more l to lasts n = go (cases_Bool (eqb l to))
+one-more : (l to : ℕ) (last_reads : List ℕ) → (l ≡ to → ⊥) → length (edges_to (l ∷ last_reads) to) ≡ suc (length (edges_to last_reads to))
+one-more l to last_reads n = go (cases_Bool (eqb l to))
   where
-    go : (eqb l to ≡ true) ⊎ (eqb l to ≡ false) → length (edges_to (l ∷ lasts) to) ≡ suc (length (edges_to lasts to))
+    go : (eqb l to ≡ true) ⊎ (eqb l to ≡ false) → length (edges_to (l ∷ last_reads) to) ≡ suc (length (edges_to last_reads to))
     go (inl t) = absurd (n (eqb-true l to t))
     go (inr f) = rw f refl
 
-no-more : (l to : ℕ) (lasts : List ℕ) → l ≡ to → length (edges_to (l ∷ lasts) to) ≡ length (edges_to lasts to)
-no-more l to lasts e = rw (eq-eqb l to e) refl
+no-more : (l to : ℕ) (last_reads : List ℕ) → l ≡ to → length (edges_to (l ∷ last_reads) to) ≡ length (edges_to last_reads to)
+no-more l to last_reads e = rw (eq-eqb l to e) refl
 
-pub side-more : (to k : ℕ) (lasts : List ℕ) → k < length lasts → (get_or lasts k 0 ≡ to → ⊥) → length (edges_to (drop k lasts) to) ≡ length (edges_to (drop (k + 1) lasts) to) + 1
-side-more to k lasts l n =
-    let d : drop k lasts ≡ get_or lasts k 0 ∷ drop (k + 1) lasts = drop-cons lasts k 0 l ∙ ap (λ (m : ℕ). get_or lasts k 0 ∷ drop m lasts) (sym (add-one k)) in
+pub side-more : (to k : ℕ) (last_reads : List ℕ) → k < length last_reads → (get_or last_reads k 0 ≡ to → ⊥) → length (edges_to (drop k last_reads) to) ≡ length (edges_to (drop (k + 1) last_reads) to) + 1
+side-more to k last_reads l n =
+    let d : drop k last_reads ≡ get_or last_reads k 0 ∷ drop (k + 1) last_reads = drop-cons last_reads k 0 l ∙ ap (λ (m : ℕ). get_or last_reads k 0 ∷ drop m last_reads) (sym (add-one k)) in
     let a = ap (λ (xs : List ℕ). length (edges_to xs to)) d in
-    let b = one-more (get_or lasts k 0) to (drop (k + 1) lasts) n in omega (arith, a, b)
+    let b = one-more (get_or last_reads k 0) to (drop (k + 1) last_reads) n in omega (arith, a, b)
 
-pub side-part : (to k : ℕ) (lasts : List ℕ) → length (edges_to (drop k lasts) to) ≤ length (edges_to lasts to)
-side-part to zero lasts = omega arith
+pub side-part : (to k : ℕ) (last_reads : List ℕ) → length (edges_to (drop k last_reads) to) ≤ length (edges_to last_reads to)
+side-part to zero last_reads = omega arith
 side-part to (suc k) [] = omega arith
-side-part to (suc k) (l ∷ lasts) = go (side-part to k lasts) (cases_Bool (eqb l to))
+side-part to (suc k) (l ∷ last_reads) = go (side-part to k last_reads) (cases_Bool (eqb l to))
   where
-    go : length (edges_to (drop k lasts) to) ≤ length (edges_to lasts to) → (eqb l to ≡ true) ⊎ (eqb l to ≡ false) → length (edges_to (drop k lasts) to) ≤ length (edges_to (l ∷ lasts) to)
-    go ih (inl t) = let a = no-more l to lasts (eqb-true l to t) in omega (arith, a, ih)
-    go ih (inr f) = let a = one-more l to lasts (λ e. both_ways _ f (eq-eqb l to e)) in omega (arith, a, ih)
+    go : length (edges_to (drop k last_reads) to) ≤ length (edges_to last_reads to) → (eqb l to ≡ true) ⊎ (eqb l to ≡ false) → length (edges_to (drop k last_reads) to) ≤ length (edges_to (l ∷ last_reads) to)
+    go ih (inl t) = let a = no-more l to last_reads (eqb-true l to t) in omega (arith, a, ih)
+    go ih (inr f) = let a = one-more l to last_reads (λ e. both_ways _ f (eq-eqb l to e)) in omega (arith, a, ih)
 
--- the lasts from one place on, and one place further down
+-- the last reads from one place on, and one place further down
 abbrev pub SpendsFrom : ℕ → List ℕ → ℕ → GraphState → GraphState → Type 0
-SpendsFrom to lasts k old new = SpendsAtMost (length (edges_to (drop k lasts) to)) old new
+SpendsFrom to last_reads k old new = SpendsAtMost (length (edges_to (drop k last_reads) to)) old new
 
-pub side-spends : (to left k : ℕ) (lasts : List ℕ) (old now new : GraphState) → left ≡ k + 1 → k < length lasts → (get_or lasts k 0 ≡ to → ⊥) → SpendsFrom to lasts left old now → SpendsAtMost 1 now new →
-    SpendsFrom to lasts k old new
-side-spends to left k lasts old now new e l n s t =
-    let a = side-more to k lasts l n in
-    let b = ap (λ (m : ℕ). length (edges_to (drop m lasts) to)) e in
-    spends-next (length (edges_to (drop left lasts) to)) 1 (length (edges_to (drop k lasts) to)) old now new s t (omega (arith, a, b))
+pub side-spends : (to left k : ℕ) (last_reads : List ℕ) (old now new : GraphState) → left ≡ k + 1 → k < length last_reads → (get_or last_reads k 0 ≡ to → ⊥) → SpendsFrom to last_reads left old now → SpendsAtMost 1 now new →
+    SpendsFrom to last_reads k old new
+side-spends to left k last_reads old now new e l n s t =
+    let a = side-more to k last_reads l n in
+    let b = ap (λ (m : ℕ). length (edges_to (drop m last_reads) to)) e in
+    spends-next (length (edges_to (drop left last_reads) to)) 1 (length (edges_to (drop k last_reads) to)) old now new s t (omega (arith, a, b))
 
-pub side-skips : (to left k : ℕ) (lasts : List ℕ) (old now : GraphState) → left ≡ k + 1 → k < length lasts → get_or lasts k 0 ≡ to → SpendsFrom to lasts left old now → SpendsFrom to lasts k old now
-side-skips to left k lasts old now e l q s =
-    let d : drop k lasts ≡ get_or lasts k 0 ∷ drop (k + 1) lasts = drop-cons lasts k 0 l ∙ ap (λ (m : ℕ). get_or lasts k 0 ∷ drop m lasts) (sym (add-one k)) in
+pub side-skips : (to left k : ℕ) (last_reads : List ℕ) (old now : GraphState) → left ≡ k + 1 → k < length last_reads → get_or last_reads k 0 ≡ to → SpendsFrom to last_reads left old now → SpendsFrom to last_reads k old now
+side-skips to left k last_reads old now e l q s =
+    let d : drop k last_reads ≡ get_or last_reads k 0 ∷ drop (k + 1) last_reads = drop-cons last_reads k 0 l ∙ ap (λ (m : ℕ). get_or last_reads k 0 ∷ drop m last_reads) (sym (add-one k)) in
     let a = ap (λ (xs : List ℕ). length (edges_to xs to)) d in
-    let b = no-more (get_or lasts k 0) to (drop (k + 1) lasts) q in
-    let c = ap (λ (m : ℕ). length (edges_to (drop m lasts) to)) e in
-    spends-next (length (edges_to (drop left lasts) to)) 0 (length (edges_to (drop k lasts) to)) old now now s (spends-none 0 now) (omega (arith, a, b, c))
+    let b = no-more (get_or last_reads k 0) to (drop (k + 1) last_reads) q in
+    let c = ap (λ (m : ℕ). length (edges_to (drop m last_reads) to)) e in
+    spends-next (length (edges_to (drop left last_reads) to)) 0 (length (edges_to (drop k last_reads) to)) old now now s (spends-none 0 now) (omega (arith, a, b, c))
 
-pub side-short : (to left k : ℕ) (lasts : List ℕ) (old now : GraphState) → left ≡ k + 1 → k < length lasts → (get_or lasts k 0 ≡ to → ⊥) → SpendsFrom to lasts left old now → now.spare < 1 →
-    old.spare < length (edges_to lasts to)
-side-short to left k lasts old now e l n s z =
-    let a = side-more to k lasts l n in
-    let b = ap (λ (m : ℕ). length (edges_to (drop m lasts) to)) e in
-    let c = side-part to k lasts in
-    spent-short (length (edges_to (drop left lasts) to)) (length (edges_to lasts to)) old now s z (omega (arith, a, b, c))
+pub side-short : (to left k : ℕ) (last_reads : List ℕ) (old now : GraphState) → left ≡ k + 1 → k < length last_reads → (get_or last_reads k 0 ≡ to → ⊥) → SpendsFrom to last_reads left old now → now.spare < 1 →
+    old.spare < length (edges_to last_reads to)
+side-short to left k last_reads old now e l n s z =
+    let a = side-more to k last_reads l n in
+    let b = ap (λ (m : ℕ). length (edges_to (drop m last_reads) to)) e in
+    let c = side-part to k last_reads in
+    spent-short (length (edges_to (drop left last_reads) to)) (length (edges_to last_reads to)) old now s z (omega (arith, a, b, c))
 
-pub side-spent : (to k : ℕ) (lasts : List ℕ) (old now : GraphState) → SpendsFrom to lasts k old now → SpendsAtMost (length (edges_to lasts to)) old now
-side-spent to k lasts old now s =
-    let c = side-part to k lasts in
-    spends-next (length (edges_to (drop k lasts) to)) 0 (length (edges_to lasts to)) old now now s (spends-none 0 now) (omega (arith, c))
+pub side-spent : (to k : ℕ) (last_reads : List ℕ) (old now : GraphState) → SpendsFrom to last_reads k old now → SpendsAtMost (length (edges_to last_reads to)) old now
+side-spent to k last_reads old now s =
+    let c = side-part to k last_reads in
+    spends-next (length (edges_to (drop k last_reads) to)) 0 (length (edges_to last_reads to)) old now now s (spends-none 0 now) (omega (arith, c))
 
 pub on_err : {A : Type 0} (result : Result A Memory) (P : Type 0) → IsErr result → P → OnErr result P
 on_err {A} (Ok x) P e p = tt

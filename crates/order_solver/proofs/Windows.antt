@@ -19,9 +19,9 @@ at_most-trans rank a b c (inr l) (inr m) = inr (omega (arith, l, m))
 pub source-in : (r : Rivalry) (word i : ℕ) → i < length (r.sources word) → Contains (r.sources word) (source_at r word i)
 source-in r word i l = Contains-get_or (r.sources word) i 0 l
 
--- where a source comes before another one with its lasts, it ranks below
+-- where a source comes before another one with its last reads, it ranks below
 pub source-before : (r : Rivalry) (rank : ℕ → ℕ) (word i j : ℕ) → AreRivals r → Holds rank (edges_in r) → word < r.words → i < length (r.sources word) → j < length (r.sources word) →
-    source_at r word i ≢ source_at r word j → Holds rank (edges_to (r.lasts word (source_at r word i)) (source_at r word j)) → rank (source_at r word i) < rank (source_at r word j)
+    source_at r word i ≢ source_at r word j → Holds rank (edges_to (r.last_reads word (source_at r word i)) (source_at r word j)) → rank (source_at r word i) < rank (source_at r word j)
 source-before r rank word i j are h w l m n side = are.before rank word (source_at r word i) (source_at r word j) h w (source-in r word i l) (source-in r word j m) n side
 
 -- so of two sources not both come before the other one
@@ -50,16 +50,16 @@ run-at_most r edges rank word from end j k run h a b c = go (cases_lt j k)
     go (inr m) = let e : j ≡ k = omega arith in inl (ap (source_at r word) e)
 
 -- what comes before one source of a thread comes before the later ones
-pub lesser-up : (r : Rivalry) (edges : List Edge) (word from end j k : ℕ) (lasts : List ℕ) → IsRun r edges word from end → from ≤ j → j ≤ k → k < end →
-    Implies edges (edges_to lasts (source_at r word j)) → Implies edges (edges_to lasts (source_at r word k))
-lesser-up r edges word from end j k lasts run a b c by rank h =
-    side-holds rank lasts (source_at r word k)
+pub lesser-up : (r : Rivalry) (edges : List Edge) (word from end j k : ℕ) (last_reads : List ℕ) → IsRun r edges word from end → from ≤ j → j ≤ k → k < end →
+    Implies edges (edges_to last_reads (source_at r word j)) → Implies edges (edges_to last_reads (source_at r word k))
+lesser-up r edges word from end j k last_reads run a b c by rank h =
+    side-holds rank last_reads (source_at r word k)
     (All-weaker (λ l. AtMost rank l (source_at r word j)) (λ l. AtMost rank l (source_at r word k))
-    (λ l q. at_most-trans rank l (source_at r word j) (source_at r word k) q (run-at_most r edges rank word from end j k run h a b c)) lasts (holds-side rank lasts (source_at r word j) (by rank h)))
+    (λ l q. at_most-trans rank l (source_at r word j) (source_at r word k) q (run-at_most r edges rank word from end j k run h a b c)) last_reads (holds-side rank last_reads (source_at r word j) (by rank h)))
 
--- where one source of a thread comes before another source with its lasts, the earlier ones do
+-- where one source of a thread comes before another source with its last reads, the earlier ones do
 pub greater-down : (r : Rivalry) (edges : List Edge) (word i from end j k : ℕ) → AreRivals r → word < r.words → i < from → IsRun r edges word from end → from ≤ j → j ≤ k → k < end →
-    Implies edges (edges_to (r.lasts word (source_at r word k)) (source_at r word i)) → Implies edges (edges_to (r.lasts word (source_at r word j)) (source_at r word i))
+    Implies edges (edges_to (r.last_reads word (source_at r word k)) (source_at r word i)) → Implies edges (edges_to (r.last_reads word (source_at r word j)) (source_at r word i))
 greater-down r edges word i from end j k are w d run a b c by = go (cases_lt j k)
   where
     s : ℕ
@@ -70,16 +70,16 @@ greater-down r edges word i from end j k are w d run a b c by = go (cases_lt j k
         let z = run.within in
         source-before r rank word k i are (run.base rank h) w (omega (arith, c, z)) (omega (arith, a, b, c, d, z)) (λ e. are.once word i k w (omega (arith, a, b, d)) (omega (arith, c, z)) (sym e)) (by rank h)
 
-    go : (j < k) ⊎ (k ≤ j) → Implies edges (edges_to (r.lasts word (source_at r word j)) s)
-    go (inr m) = let e : k ≡ j = omega arith in subst (λ (n : ℕ). Implies edges (edges_to (r.lasts word (source_at r word n)) s)) e by
-    go (inl l) = λ rank h. side-holds rank (r.lasts word (source_at r word j)) s (All-weaker (λ x. AtMost rank x (source_at r word (j + 1))) (λ x. AtMost rank x s)
+    go : (j < k) ⊎ (k ≤ j) → Implies edges (edges_to (r.last_reads word (source_at r word j)) s)
+    go (inr m) = let e : k ≡ j = omega arith in subst (λ (n : ℕ). Implies edges (edges_to (r.last_reads word (source_at r word n)) s)) e by
+    go (inl l) = λ rank h. side-holds rank (r.last_reads word (source_at r word j)) s (All-weaker (λ x. AtMost rank x (source_at r word (j + 1))) (λ x. AtMost rank x s)
         (λ x q. at_most-trans rank x (source_at r word (j + 1)) s q (at_most-trans rank (source_at r word (j + 1)) (source_at r word k) s
         (run-at_most r edges rank word from end (j + 1) k run h (omega arith) (omega arith) c) (inr (up rank h))))
-        (r.lasts word (source_at r word j)) (holds-side rank (r.lasts word (source_at r word j)) (source_at r word (j + 1)) (run.chained rank h j a (omega arith))))
+        (r.last_reads word (source_at r word j)) (holds-side rank (r.last_reads word (source_at r word j)) (source_at r word (j + 1)) (run.chained rank h j a (omega arith))))
 
 -- one more is seen to come before, and with it all earlier ones
 pub before-more : (r : Rivalry) (edges : List Edge) (word i from end middle : ℕ) → AreRivals r → word < r.words → i < from → IsRun r edges word from end → middle < end →
-    Implies edges (edges_to (r.lasts word (source_at r word middle)) (source_at r word i)) → AreBefore r edges word i from (middle + 1)
+    Implies edges (edges_to (r.last_reads word (source_at r word middle)) (source_at r word i)) → AreBefore r edges word i from (middle + 1)
 before-more r edges word i from end middle are w d run l by k a b = greater-down r edges word i from end k middle are w d run a (omega arith) l by
 
 -- those that come before are settled, and so are those that come after
@@ -89,8 +89,8 @@ before-settled r edges word i from end are base w l m before k a b =
     inr (before k a b, settled-shut r edges word i k are base w (omega arith) (omega arith) (are.once word i k w (omega arith) (omega arith)) (before k a b))
 
 pub after-settled : (r : Rivalry) (edges : List Edge) (word i from end at : ℕ) → IsRun r edges word from end → from ≤ at →
-    Implies edges (edges_to (r.lasts word (source_at r word i)) (source_at r word at)) → AreSettled r edges word i at end
-after-settled r edges word i from end at run a by k b c = inl (lesser-up r edges word from end at k (r.lasts word (source_at r word i)) run a b c by)
+    Implies edges (edges_to (r.last_reads word (source_at r word i)) (source_at r word at)) → AreSettled r edges word i at end
+after-settled r edges word i from end at run a by k b c = inl (lesser-up r edges word from end at k (r.last_reads word (source_at r word i)) run a b c by)
 
 pub settled-join : (r : Rivalry) (edges : List Edge) (word i from middle end : ℕ) → AreSettled r edges word i from middle → AreSettled r edges word i middle end → AreSettled r edges word i from end
 settled-join r edges word i from middle end one two k a b = go (cases_lt k middle)
@@ -127,7 +127,7 @@ run-of r edges word t from end are rooted w l a b e = record {
 
 -- those that come before and those that come after are all
 pub both-settled : (r : Rivalry) (edges : List Edge) (word i from end at : ℕ) → AreRivals r → word < r.words → i < from → IsRun r edges word from end → from ≤ at → at ≤ end →
-    AreBefore r edges word i from at → Implies edges (edges_to (r.lasts word (source_at r word i)) (source_at r word at)) → AreSettled r edges word i from end
+    AreBefore r edges word i from at → Implies edges (edges_to (r.last_reads word (source_at r word i)) (source_at r word at)) → AreSettled r edges word i from end
 both-settled r edges word i from end at are w l run a b before by =
     settled-join r edges word i from at end (before-settled r edges word i from at are run.base w l (let z = run.within in omega (arith, b, z)) before)
     (after-settled r edges word i from end at run a by)

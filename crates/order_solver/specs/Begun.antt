@@ -1,5 +1,5 @@
 -- A graph with which a search may begin.
-use Rattle.std.specs.Prelude.{◌≡◌, ℕ, ◌+◌, ◌<◌, Option, Some, None, Result, Ok, Err, []}
+use Rattle.std.specs.Prelude.{◌≡◌, ℕ, ◌+◌, ◌<◌, Option, Some, None, Result, Ok, Err, [], length}
 use Rattle.light_base.specs.declared.memory.Memory.{Memory}
 use Rattle.plain_search.specs.Searches.{Solves, problem_of}
 use Rattle.plain_search.specs.Standing.{Stands}
@@ -7,9 +7,13 @@ use Rattle.order_graph.specs.Graphs.{GraphState, edges_of}
 use Rattle.order_solver.specs.Rivals.{Rivalry, pairs_from, problem_in}
 use Rattle.order_solver.specs.Cursors.{Chained, IsRooted}
 
--- of the sources of so many threads on the word, each comes before the next one of its thread, with its lasts
+-- of the sources of so many threads on the word, each comes before the next one of its thread, with its last reads
 abbrev pub HoldsRuns : Rivalry → (ℕ → ℕ) → ℕ → ℕ → Type 0
 HoldsRuns r rank word threads = (t : ℕ) → t < threads → Chained r rank word (r.start word t) (r.start word (t + 1))
+
+-- and so it is on the first words
+abbrev pub HoldsWords : Rivalry → (ℕ → ℕ) → ℕ → Type 0
+HoldsWords r rank words = (w : ℕ) → w < words → HoldsRuns r rank w (length r.counts)
 
 -- the edges are those of the problem, and more that each solution holds
 pub record IsBegun (r : Rivalry) (g : GraphState) : Type 0 where

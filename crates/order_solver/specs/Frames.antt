@@ -26,7 +26,8 @@ edges_with r added = chains_from 0 r.counts ++ added
 abbrev pub rests_of : Rivalry → List Edge → List Frame → List PairProblem
 rests_of r added [] = []
 rests_of r added (frame ∷ frames) =
-    problem_of ((pair_at r frame.at).greater ++ edges_with r (take frame.mark added)) (pairs_at r (next_of frame.at)) ∷ rests_of r (take frame.mark added) frames
+    problem_of ((pair_at r frame.at).greater ++ edges_with r (take frame.mark added)) (pairs_at r (next_of frame.at)) ∷
+    rests_of r (take frame.mark added) frames
 
 -- each frame is of a pair, and no deeper than what lies above it; at the bottom are the edges with which the search began
 abbrev pub Stacked : Rivalry → List Edge → List Frame → Type 0
@@ -61,7 +62,8 @@ abbrev pub WentBack : Rivalry → GraphState → List Frame → GraphState → L
 WentBack r old frames new frames' (Ok (Some next)) = (new.counts ≡ old.counts) × IsPlace r next × Stacked r new.added frames' ×
     ((problem : PairProblem) (dead : ℕ) → Stands problem (rests_of r old.added frames) None dead →
     Stands problem (rests_of r new.added frames') (Some (problem_of (edges_with r new.added) (pairs_at r next))) dead)
-WentBack r old frames new frames' (Ok None) = (problem : PairProblem) (dead : ℕ) → Stands problem (rests_of r old.added frames) None dead → Stands problem [] None dead
+WentBack r old frames new frames' (Ok None) =
+    (problem : PairProblem) (dead : ℕ) → Stands problem (rests_of r old.added frames) None dead → Stands problem [] None dead
 WentBack r old frames new frames' (Err _) = Unit {0}
 
 -- what an ending says: each ranking of the edges solves the problem, none solves it, or the plain search meets more dead ends
@@ -70,3 +72,10 @@ Explored r budget (Ok Found) new = (new.counts ≡ r.counts) × ((rank : ℕ →
 Explored r budget (Ok ending.None) new = (rank : ℕ → ℕ) → Solves (problem_in r) rank → ⊥
 Explored r budget (Ok Spent) new = budget < (outcome (problem_in r)).dead
 Explored r budget (Err _) new = Unit {0}
+
+-- where the budget is spent, there is a pair to go back to
+abbrev pub LeavesOne : Result Ending Memory → List Frame → Type 0
+LeavesOne (Ok Found) frames = Unit {0}
+LeavesOne (Ok ending.None) frames = Unit {0}
+LeavesOne (Ok Spent) frames = 0 < length frames
+LeavesOne (Err _) frames = Unit {0}

@@ -1,4 +1,4 @@
--- Sources with their lasts, as the reads that a judge of orders sees.
+-- Sources with their last reads, as the reads that a judge of orders sees.
 use Rattle.std.specs.Prelude.{ℕ, List, map}
 use Rattle.std.specs.List.{flat_map, range_with_len}
 use Rattle.order_judge.specs.declared.judging.Read.{Read}
@@ -7,13 +7,13 @@ use Rattle.order_solver.specs.Rivals.{Rivalry}
 abbrev pub read : ℕ → ℕ → ℕ → Read
 read word source last = record { word = word; source = source; last = last }
 
--- the reads of a source of a word that has these lasts
+-- the reads of a source of a word that has these last reads
 abbrev pub reads_of : ℕ → ℕ → List ℕ → List Read
-reads_of word source lasts = map (read word source) lasts
+reads_of word source last_reads = map (read word source) last_reads
 
 -- the reads of a word
 abbrev pub reads_at : Rivalry → ℕ → List Read
-reads_at r word = flat_map (λ s. reads_of word s (r.lasts word s)) (r.sources word)
+reads_at r word = flat_map (λ s. reads_of word s (r.last_reads word s)) (r.sources word)
 
 -- the reads of the first words
 abbrev pub reads_up_to : Rivalry → ℕ → List Read

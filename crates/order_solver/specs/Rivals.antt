@@ -15,17 +15,17 @@ pub record Rivalry : Type 0 where
   pub words : ℕ
   -- the sources of each word
   pub sources : ℕ → List ℕ
-  -- the lasts of a source of a word: where it comes before another source, they do too, or are it
-  pub lasts : ℕ → ℕ → List ℕ
+  -- the last reads of a source of a word: where it comes before another source, they do too, or are it
+  pub last_reads : ℕ → ℕ → List ℕ
   -- the place among the sources of a word at which those of a thread begin
   pub start : ℕ → ℕ → ℕ
 
 abbrev pub source_at : Rivalry → ℕ → ℕ → ℕ
 source_at r word i = slice_index (r.sources word) i
 
--- two sources of a word: one of them comes first, with its lasts
+-- two sources of a word: one of them comes first, with its last reads
 abbrev pub pair_in : Rivalry → ℕ → ℕ → ℕ → Pair
-pair_in r word s t = record { lesser = edges_to (r.lasts word s) t; greater = edges_to (r.lasts word t) s }
+pair_in r word s t = record { lesser = edges_to (r.last_reads word s) t; greater = edges_to (r.last_reads word t) s }
 
 -- the pairs of so many words, from this one on
 abbrev pub pairs_from : Rivalry → ℕ → ℕ → List Pair
@@ -42,7 +42,7 @@ problem_in r = problem_of (edges_in r) (pairs_from r 0 r.words)
 abbrev pub AtMost : (ℕ → ℕ) → ℕ → ℕ → Type 0
 AtMost rank a b = (a ≡ b) ⊎ (rank a < rank b)
 
--- what the search relies on: numbers are those of nodes, and few enough; where the edges hold and the lasts of one source come
+-- what the search relies on: numbers are those of nodes, and few enough; where the edges hold and the last reads of one source come
 -- before another source, it does too; the sources of one thread on one word stand together, by rising rank
 pub record AreRivals (r : Rivalry) : Type 0 where
   pub nodes_few : sum r.counts < 2 ^ 32
@@ -51,12 +51,12 @@ pub record AreRivals (r : Rivalry) : Type 0 where
   pub sources_few : (word : ℕ) → word < r.words → length (r.sources word) < 2 ^ 32
   pub base : (e : Edge) → Contains r.base e → (e.from < sum r.counts) × (e.to < sum r.counts)
   pub source : (word s : ℕ) → word < r.words → Contains (r.sources word) s → s < sum r.counts
-  pub last : (word s l : ℕ) → word < r.words → Contains (r.sources word) s → Contains (r.lasts word s) l → l < sum r.counts
+  pub last : (word s l : ℕ) → word < r.words → Contains (r.sources word) s → Contains (r.last_reads word s) l → l < sum r.counts
   pub before : (rank : ℕ → ℕ) (word s t : ℕ) → Holds rank (edges_in r) → word < r.words → Contains (r.sources word) s → Contains (r.sources word) t → s ≢ t →
-      Holds rank (edges_to (r.lasts word s) t) → rank s < rank t
+      Holds rank (edges_to (r.last_reads word s) t) → rank s < rank t
   pub once : (word i j : ℕ) → word < r.words → i < j → j < length (r.sources word) → source_at r word i ≢ source_at r word j
   pub first : (word : ℕ) → word < r.words → r.start word 0 ≡ 0
   pub end : (word : ℕ) → word < r.words → r.start word (length r.counts) ≡ length (r.sources word)
   pub next : (word t : ℕ) → word < r.words → t < length r.counts → r.start word t ≤ r.start word (t + 1)
-  pub rising : (rank : ℕ → ℕ) (word t i j : ℕ) → Holds rank (edges_in r) → word < r.words → t < length r.counts → r.start word t ≤ i → i < j → j < r.start word (t + 1) →
-      rank (source_at r word i) < rank (source_at r word j)
+  pub rising : (rank : ℕ → ℕ) (word t i j : ℕ) → Holds rank (edges_in r) → word < r.words → t < length r.counts →
+      r.start word t ≤ i → i < j → j < r.start word (t + 1) → rank (source_at r word i) < rank (source_at r word j)

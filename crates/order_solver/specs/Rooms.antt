@@ -1,33 +1,32 @@
 -- Memory for a search: where it stands, each pair is decided once at most, and each may cost the edges of its longer side.
-use Rattle.std.specs.Prelude.{◌≡◌, ℕ, ◌+◌, ◌≤◌, max, List, [], ◌∷◌, ◌⊎◌, length, take}
-use Rattle.std.specs.List.{sum_by}
+use Rattle.std.specs.Prelude.{◌≡◌, ℕ, ◌+◌, ◌≤◌, List, [], ◌∷◌, ◌⊎◌, length, take, reverse, vec_capacity}
+use Rattle.std.specs.Global.{Vec}
 use Rattle.plain_search.specs.declared.Edge.{Edge}
 use Rattle.plain_search.specs.Edges.{Implies}
 use Rattle.plain_search.specs.Searches.{Pair}
 use Rattle.order_graph.specs.Graphs.{GraphState, edges_of}
+use Rattle.constraints.specs.Constraints.{longer_side, longer_sides}
 use Rattle.order_solver.specs.declared.search.Frame.{Frame}
-use Rattle.order_solver.specs.Rivals.{Rivalry, pairs_from}
+use Rattle.order_solver.specs.Rivals.{Rivalry, source_at, pair_in, pairs_from}
 use Rattle.order_solver.specs.Frames.{pair_at, edges_with}
-
--- the edges of a pair's longer side, in number
-abbrev pub cost_of : Pair → ℕ
-cost_of pair = max (length pair.lesser) (length pair.greater)
-
-abbrev pub costs_of : List Pair → ℕ
-costs_of pairs = sum_by cost_of pairs
 
 -- what all pairs may cost
 abbrev pub side_edges_in : Rivalry → ℕ
-side_edges_in r = costs_of (pairs_from r 0 r.words)
+side_edges_in r = longer_sides (pairs_from r 0 r.words)
 
 -- the edges imply one side of the pair
 abbrev pub IsDecided : List Edge → Pair → Type 0
 IsDecided edges pair = Implies edges pair.lesser ⊎ Implies edges pair.greater
 
+-- the edges imply neither side of the pair of these sources of the word
+abbrev pub AreUndecided : Rivalry → List Edge → ℕ → ℕ → ℕ → Type 0
+AreUndecided r edges word i j = IsDecided edges (pair_in r word (source_at r word i) (source_at r word j)) → ⊥
+
 -- some of these pairs are decided, and cost so much together
 abbrev pub HaveCost : List Edge → List Pair → ℕ → Type 0
 HaveCost edges [] cost = cost ≡ 0
-HaveCost edges (pair ∷ pairs) cost = HaveCost edges pairs cost ⊎ (IsDecided edges pair × (rest : ℕ) × (cost ≡ rest + cost_of pair) × HaveCost edges pairs rest)
+HaveCost edges (pair ∷ pairs) cost = HaveCost edges pairs cost ⊎
+    (IsDecided edges pair × (rest : ℕ) × (cost ≡ rest + longer_side pair) × HaveCost edges pairs rest)
 
 -- no more edges were added, and no more frames stand, than the decided pairs cost; memory for so many edges is enough for the other pairs too
 pub record Fits (r : Rivalry) (memory frames : ℕ) (edges : List Edge) (added : ℕ) : Type 0 where
@@ -69,3 +68,14 @@ KeepsMemory r old frames capacity new frames' capacity' = (memory : ℕ) → Has
 
 abbrev pub LacksMemory : Rivalry → GraphState → List Frame → ℕ → Type 0
 LacksMemory r g frames capacity = (memory : ℕ) → HasMemory r memory g frames capacity → ⊥
+
+-- the same of the frames that stand in a vector
+abbrev pub StackKeepsMemory : Rivalry → GraphState → Vec Frame → GraphState → Vec Frame → Type 0
+StackKeepsMemory r old stack new stack' = KeepsMemory r old (reverse stack.items) (vec_capacity stack) new (reverse stack'.items) (vec_capacity stack')
+
+abbrev pub StackLacksMemory : Rivalry → GraphState → Vec Frame → Type 0
+StackLacksMemory r g stack = LacksMemory r g (reverse stack.items) (vec_capacity stack)
+
+-- there is not memory for the longer sides of all pairs, and for a frame at each of their edges
+abbrev pub LacksSideMemory : Rivalry → GraphState → Vec Frame → Type 0
+LacksSideMemory r g stack = side_edges_in r ≤ g.spare → side_edges_in r ≤ vec_capacity stack → ⊥

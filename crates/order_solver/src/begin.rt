@@ -5,7 +5,7 @@ ghost use Rattle.order_graph.specs.Graphs.{nodes_of};
 ghost use Rattle.order_solver.specs.Rivals.{AreRivals};
 ghost use Rattle.order_solver.specs.Sides.{Narrows};
 ghost use Rattle.order_solver.specs.Cursors.{Chained};
-ghost use Rattle.order_solver.specs.Begun.{HoldsRuns, Begins};
+ghost use Rattle.order_solver.specs.Begun.{HoldsRuns, HoldsWords, Begins};
 
 use crate::rivals::Rivals;
 use crate::sides::{add_edge, add_side};
@@ -28,7 +28,7 @@ fn add_edges(graph: &mut Graph, edges: &[Edge]) -> Result<Added, Memory>
     Ok(Added::In)
 }
 
-// Adds that of the sources of one thread, from one place to another, each comes before the next one, with its lasts.
+// Adds that of the sources of one thread, from one place to another, each comes before the next one, with its last reads.
 fn add_run<R: Rivals>(
     graph: &mut Graph,
     rivals: &R,
@@ -45,7 +45,7 @@ fn add_run<R: Rivals>(
     for at in from..end.saturating_sub(1) {
         match add_side(
             graph,
-            rivals.lasts(word, at),
+            rivals.last_reads(word, at),
             rivals.sources(word)[at as usize + 1],
         )? {
             Added::In => {}
@@ -76,7 +76,7 @@ fn add_word<R: Rivals>(graph: &mut Graph, rivals: &R, word: u16) -> Result<Added
 fn add_words<R: Rivals>(graph: &mut Graph, rivals: &R) -> Result<Added, Memory>
     requires rivals { AreRivals (R.rivalry rivals.now) }
     requires counts { graph.old.counts ≡ (R.rivalry rivals.now).counts }
-    ensures { Narrows (λ rank. (w : ℕ) → w < (R.rivalry rivals.now).words → HoldsRuns (R.rivalry rivals.now) rank w (length (R.rivalry rivals.now).counts)) graph.old result graph.new }
+    ensures { Narrows (λ rank. HoldsWords (R.rivalry rivals.now) rank (R.rivalry rivals.now).words) graph.old result graph.new }
 {
     for word in 0..rivals.words() {
         match add_word(graph, rivals, word)? {

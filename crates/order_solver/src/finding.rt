@@ -8,7 +8,6 @@ ghost use Rattle.order_solver.specs.Prepared.{IsPrepared, most_side_edges, HasSp
 use crate::begin::begin;
 use crate::rivals::Rivals;
 use crate::search::{Ending, Frame, explore};
-use crate::side_costs::side_edges_in;
 use light_base::Memory;
 use order_graph::Graph;
 use std::alloc::Global;
@@ -25,7 +24,7 @@ pub enum Finding {
 }
 
 /// The most edges of pairs' longer sides for which a search takes its memory before it begins.
-pub const MOST_SIDE_EDGES: u32 = 4_194_304;
+pub const MOST_SIDE_EDGES: u64 = 4_194_304;
 
 /// What a search works with: the graph with which it begins, where the edges that have to hold have no cycle, and memory for
 /// its frames and for a row of all nodes.
@@ -62,9 +61,11 @@ pub fn prepare<R: Rivals>(alloc: Global, rivals: &R) -> Result<Prepared, Memory>
     requires { AreRivals (R.rivalry rivals.now) }
     ensures { IfOk result (λ prepared. IsPrepared (R.rivalry rivals.now) prepared) }
 {
-    let adds = match side_edges_in(rivals, MOST_SIDE_EDGES) {
-        Some(adds) => adds,
-        None => 0,
+    let side_edges = rivals.side_edges();
+    let adds = if side_edges <= MOST_SIDE_EDGES {
+        side_edges as u32
+    } else {
+        0
     };
     let graph = match begin(alloc, rivals)? {
         Some(graph) => Some(with_spare(graph, adds)?),

@@ -14,10 +14,15 @@ use std::alloc::Global;
 const MOST: usize = 4_294_967_295;
 
 // Appends the reads of a source.
-fn put_lasts(reads: &mut Vec<Read>, word: u16, source: u32, lasts: &[u32]) -> Result<(), Memory>
-    ensures { OnOk result (reads.new.items ≡ reads.old.items ++ reads_of word source lasts.now) }
+fn put_last_reads(
+    reads: &mut Vec<Read>,
+    word: u16,
+    source: u32,
+    last_reads: &[u32],
+) -> Result<(), Memory>
+    ensures { OnOk result (reads.new.items ≡ reads.old.items ++ reads_of word source last_reads.now) }
 {
-    for last in lasts {
+    for last in last_reads {
         reads.push(Read {
             word: u32::from(word),
             source,
@@ -34,7 +39,7 @@ fn put_word<R: Rivals>(reads: &mut Vec<Read>, rivals: &R, word: u16) -> Result<(
     ensures { OnOk result (reads.new.items ≡ reads.old.items ++ reads_at (R.rivalry rivals.now) word) }
 {
     for (i, source) in rivals.sources(word).iter().enumerate() {
-        put_lasts(reads, word, *source, rivals.lasts(word, i as u32))?;
+        put_last_reads(reads, word, *source, rivals.last_reads(word, i as u32))?;
     }
     Ok(())
 }
@@ -68,7 +73,7 @@ fn is_line<R: Rivals>(
     respects(alloc, rivals.counts(), rivals.base(), reads, row)
 }
 
-/// A row of all nodes along which the edges rise, and of each two sources of a word one comes first with its lasts, as it was
+/// A row of all nodes along which the edges rise, and of each two sources of a word one comes first with its last reads, as it was
 /// guessed and judged. None says nothing: there may be such a row.
 pub fn guess_line<R: Rivals>(alloc: Global, rivals: &R) -> Result<Option<Vec<u32>>, Memory>
     requires { AreRivals (R.rivalry rivals.now) }

@@ -1,4 +1,4 @@
-//! A search for an order of nodes in which for each two sources of a word one comes first with all its lasts, and the solver
+//! A search for an order of nodes in which for each two sources of a word one comes first with all its last reads, and the solver
 //! of a log that stands on it.
 #![tactic(auto)]
 
@@ -13,11 +13,8 @@ mod problems;
 mod rivals;
 mod rows;
 mod search;
-mod side_costs;
 mod sides;
 mod solving;
 mod taking;
 
-pub use finding::MOST_SIDE_EDGES;
-pub use rivals::Rivals;
-pub use solving::{Answer, Search, side_edges, solve};
+pub use solving::{Answer, Search, solve};

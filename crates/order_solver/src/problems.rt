@@ -26,11 +26,15 @@ impl Rivals for Problem {
         Problem::sources(self, word)
     }
 
-    fn lasts(&self, word: u16, source: u32) -> &[u32] {
+    fn last_reads(&self, word: u16, source: u32) -> &[u32] {
         Problem::lasts(self, word, source)
     }
 
     fn group(&self, word: u16, thread: u8) -> (u32, u32) {
         Problem::group(self, word, thread)
+    }
+
+    fn side_edges(&self) -> u64 {
+        Problem::side_edges(self)
     }
 }

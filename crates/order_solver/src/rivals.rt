@@ -1,11 +1,12 @@
 // What the search works on.
 ghost use Rattle.std.specs.Prelude.{◌≡◌, ℕ, ◌+◌, ◌<◌, length, slice_index};
 ghost use Rattle.order_solver.specs.Rivals.{Rivalry, source_at};
+ghost use Rattle.order_solver.specs.Rooms.{side_edges_in};
 
 use plain_search::Edge;
 
 /// Nodes of threads with edges that have to hold, and for each word its sources, of which each two are rivals: one of the
-/// two comes first, and its lasts do too.
+/// two comes first, and its last reads do too.
 pub trait Rivals {
     ghost rivalry: { Self → Rivalry };
 
@@ -26,11 +27,11 @@ pub trait Rivals {
         requires { word < (rivalry self.now).words }
         ensures { result.now ≡ (rivalry self.now).sources word };
 
-    /// The lasts of the word's source at this place.
-    fn lasts(&self, word: u16, source: u32) -> &[u32]
+    /// The last reads of the word's source at this place.
+    fn last_reads(&self, word: u16, source: u32) -> &[u32]
         requires word { word < (rivalry self.now).words }
         requires source { source < length ((rivalry self.now).sources word) }
-        ensures { result.now ≡ (rivalry self.now).lasts word (source_at (rivalry self.now) word source) };
+        ensures { result.now ≡ (rivalry self.now).last_reads word (source_at (rivalry self.now) word source) };
 
     /// Where the sources of one thread begin and end among those of the word.
     fn group(&self, word: u16, thread: u8) -> (u32, u32)
@@ -38,4 +39,8 @@ pub trait Rivals {
         requires thread { thread < length (rivalry self.now).counts }
         ensures start { result.0 ≡ (rivalry self.now).start word thread }
         ensures end { result.1 ≡ (rivalry self.now).start word (thread + 1) };
+
+    /// The number of edges of the longer side of each pair, summed over all pairs.
+    fn side_edges(&self) -> u64
+        ensures { result ≡ side_edges_in (rivalry self.now) };
 }

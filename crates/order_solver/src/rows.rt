@@ -1,29 +1,27 @@
 // The pairs of one source with later ones, and which of them the graph settles.
-ghost use Rattle.std.specs.Prelude.{◌≡◌, ℕ, ◌+◌, ◌<◌, ◌≤◌, ◌↔◌, IsTrue, IfSome, MatchOption, length};
-ghost use Rattle.plain_search.specs.Edges.{Implies};
+ghost use Rattle.std.specs.Prelude.{◌≡◌, ◌<◌, ◌≤◌, ◌↔◌, IsTrue, IfSome, length};
 ghost use Rattle.order_graph.specs.Graphs.{edges_of};
-ghost use Rattle.order_solver.specs.Rivals.{AreRivals, source_at, pair_in};
-ghost use Rattle.constraints.specs.Constraints.{edges_to};
-ghost use Rattle.order_solver.specs.Cursors.{IsRooted, IsRun, AreBefore, AreSettled};
-ghost use Rattle.order_solver.specs.Rooms.{IsDecided};
+ghost use Rattle.order_solver.specs.Rivals.{AreRivals};
+ghost use Rattle.order_solver.specs.Cursors.{IsRooted, IsRun, Precedes, AreBefore, AreSettledBefore};
+ghost use Rattle.order_solver.specs.Rooms.{AreUndecided};
 
 use crate::cursor::Cursor;
 use crate::rivals::Rivals;
 use crate::sides::is_implied;
 use order_graph::Graph;
 
-// Whether the graph implies that one source of a word comes before another one, with its lasts.
+// Whether the graph implies that one source of a word comes before another one, with its last reads.
 pub fn precedes<R: Rivals>(rivals: &R, graph: &Graph, word: u16, first: u32, then: u32) -> bool
     requires rivals { AreRivals (R.rivalry rivals.now) }
     requires counts { graph.now.counts ≡ (R.rivalry rivals.now).counts }
     requires word { word < (R.rivalry rivals.now).words }
     requires first { first < length ((R.rivalry rivals.now).sources word) }
     requires then { then < length ((R.rivalry rivals.now).sources word) }
-    ensures { IsTrue result ↔ Implies (edges_of graph.now) (edges_to ((R.rivalry rivals.now).lasts word (source_at (R.rivalry rivals.now) word first)) (source_at (R.rivalry rivals.now) word then)) }
+    ensures { IsTrue result ↔ Precedes (R.rivalry rivals.now) (edges_of graph.now) word first then }
 {
     is_implied(
         graph,
-        rivals.lasts(word, first),
+        rivals.last_reads(word, first),
         rivals.sources(word)[then as usize],
     )
 }
@@ -46,7 +44,7 @@ fn first_after<R: Rivals>(
     ensures low { from ≤ result }
     ensures high { result ≤ end }
     ensures before { AreBefore (R.rivalry rivals.now) (edges_of graph.now) word source from result }
-    ensures last { result < end → Implies (edges_of graph.now) (edges_to ((R.rivalry rivals.now).lasts word (source_at (R.rivalry rivals.now) word result)) (source_at (R.rivalry rivals.now) word source)) → ⊥ }
+    ensures last { result < end → Precedes (R.rivalry rivals.now) (edges_of graph.now) word result source → ⊥ }
 {
     let mut low = from;
     let mut high = end;
@@ -75,9 +73,8 @@ fn next_in_run<R: Rivals>(
     requires word { word < (R.rivalry rivals.now).words }
     requires source { source < from }
     requires run { IsRun (R.rivalry rivals.now) (edges_of graph.now) word from end }
-    ensures settled { MatchOption result (AreSettled (R.rivalry rivals.now) (edges_of graph.now) word source from end)
-        (λ k. (from ≤ k) × (k < end) × AreSettled (R.rivalry rivals.now) (edges_of graph.now) word source from k) }
-    ensures undecided { IfSome result (λ k. IsDecided (edges_of graph.now) (pair_in (R.rivalry rivals.now) word (source_at (R.rivalry rivals.now) word source) (source_at (R.rivalry rivals.now) word k)) → ⊥) }
+    ensures settled { AreSettledBefore (R.rivalry rivals.now) (edges_of graph.now) word source from end result }
+    ensures undecided { IfSome result (AreUndecided (R.rivalry rivals.now) (edges_of graph.now) word source) }
 {
     if from >= end {
         return None;
@@ -99,10 +96,9 @@ pub fn next_in_row<R: Rivals>(rivals: &R, graph: &Graph, at: Cursor) -> Option<u
     requires rooted { IsRooted (R.rivalry rivals.now) (edges_of graph.now) }
     requires word { at.word < (R.rivalry rivals.now).words }
     requires lesser { at.lesser < at.greater }
-    ensures settled { MatchOption result
-        (AreSettled (R.rivalry rivals.now) (edges_of graph.now) at.word at.lesser at.greater (length ((R.rivalry rivals.now).sources at.word)))
-        (λ k. (at.greater ≤ k) × (k < length ((R.rivalry rivals.now).sources at.word)) × AreSettled (R.rivalry rivals.now) (edges_of graph.now) at.word at.lesser at.greater k) }
-    ensures undecided { IfSome result (λ k. IsDecided (edges_of graph.now) (pair_in (R.rivalry rivals.now) at.word (source_at (R.rivalry rivals.now) at.word at.lesser) (source_at (R.rivalry rivals.now) at.word k)) → ⊥) }
+    ensures settled { AreSettledBefore (R.rivalry rivals.now) (edges_of graph.now) at.word at.lesser at.greater
+        (length ((R.rivalry rivals.now).sources at.word)) result }
+    ensures undecided { IfSome result (AreUndecided (R.rivalry rivals.now) (edges_of graph.now) at.word at.lesser) }
 {
     let mut from = at.greater;
     for thread in 0..rivals.counts().len() {

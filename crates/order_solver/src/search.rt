@@ -5,8 +5,8 @@ ghost use Rattle.order_solver.specs.Rivals.{AreRivals, source_at, pair_in};
 ghost use Rattle.order_solver.specs.Cursors.{IsAt};
 ghost use Rattle.order_solver.specs.Sides.{Takes};
 ghost use Rattle.order_solver.specs.Begun.{IsBegun};
-ghost use Rattle.order_solver.specs.Frames.{pair_at, Stacked, TookPair, Chose, WentBack, Explored};
-ghost use Rattle.order_solver.specs.Rooms.{IsDecided, side_edges_in, KeepsMemory, LacksMemory};
+ghost use Rattle.order_solver.specs.Frames.{pair_at, Stacked, TookPair, Chose, WentBack, Explored, LeavesOne};
+ghost use Rattle.order_solver.specs.Rooms.{IsDecided, StackKeepsMemory, StackLacksMemory, LacksSideMemory};
 
 use crate::cursor::{Cursor, first_of, next_to};
 use crate::forcing::{ALL_ROUNDS, force, rounds_after};
@@ -48,8 +48,8 @@ fn take_pair<R: Rivals>(
     requires at { IsAt (R.rivalry rivals.now) at }
     requires undecided { IsDecided (edges_of graph.old) (pair_at (R.rivalry rivals.now) at) → ⊥ }
     ensures took { TookPair (R.rivalry rivals.now) at graph.old (reverse frames.old.items) graph.new (reverse frames.new.items) result }
-    ensures room { OnOk result (KeepsMemory (R.rivalry rivals.now) graph.old (reverse frames.old.items) (vec_capacity frames.old) graph.new (reverse frames.new.items) (vec_capacity frames.new)) }
-    ensures memory { OnErr result (LacksMemory (R.rivalry rivals.now) graph.old (reverse frames.old.items) (vec_capacity frames.old)) }
+    ensures room { OnOk result (StackKeepsMemory (R.rivalry rivals.now) graph.old frames.old graph.new frames.new) }
+    ensures memory { OnErr result (StackLacksMemory (R.rivalry rivals.now) graph.old frames.old) }
 {
     let mark = graph.mark();
     if take_lesser(rivals, graph, at)? {
@@ -69,8 +69,8 @@ fn go_back<R: Rivals>(
     requires counts { graph.old.counts ≡ (R.rivalry rivals.now).counts }
     requires stacked { Stacked (R.rivalry rivals.now) graph.old.added (reverse frames.old.items) }
     ensures went { WentBack (R.rivalry rivals.now) graph.old (reverse frames.old.items) graph.new (reverse frames.new.items) result }
-    ensures room { OnOk result (KeepsMemory (R.rivalry rivals.now) graph.old (reverse frames.old.items) (vec_capacity frames.old) graph.new (reverse frames.new.items) (vec_capacity frames.new)) }
-    ensures memory { OnErr result (LacksMemory (R.rivalry rivals.now) graph.old (reverse frames.old.items) (vec_capacity frames.old)) }
+    ensures room { OnOk result (StackKeepsMemory (R.rivalry rivals.now) graph.old frames.old graph.new frames.new) }
+    ensures memory { OnErr result (StackLacksMemory (R.rivalry rivals.now) graph.old frames.old) }
 {
     while let Some(frame) = frames.pop() {
         graph.undo(frame.mark);
@@ -95,8 +95,8 @@ fn choose<R: Rivals>(
     requires at { IsAt (R.rivalry rivals.now) at }
     requires undecided { IsDecided (edges_of graph.old) (pair_at (R.rivalry rivals.now) at) → ⊥ }
     ensures chose { Chose (R.rivalry rivals.now) at graph.old (reverse frames.old.items) graph.new (reverse frames.new.items) result }
-    ensures room { OnOk result (KeepsMemory (R.rivalry rivals.now) graph.old (reverse frames.old.items) (vec_capacity frames.old) graph.new (reverse frames.new.items) (vec_capacity frames.new)) }
-    ensures memory { OnErr result (LacksMemory (R.rivalry rivals.now) graph.old (reverse frames.old.items) (vec_capacity frames.old)) }
+    ensures room { OnOk result (StackKeepsMemory (R.rivalry rivals.now) graph.old frames.old graph.new frames.new) }
+    ensures memory { OnErr result (StackLacksMemory (R.rivalry rivals.now) graph.old frames.old) }
 {
     if take_pair(rivals, graph, frames, at)? {
         return force(rivals, graph, rounds);
@@ -113,7 +113,7 @@ fn one_more(dead: u32, budget: u32) -> Option<u32>
 }
 
 // Searches all pairs, with at most so many dead ends. What is forced is taken at the start and after each choice. A dead end with
-// nothing to go back to needs no budget: there is no choice.
+// nothing to go back to needs no budget: there is no choice. So where the budget is spent, there is a pair to go back to.
 pub fn explore<R: Rivals>(
     rivals: &R,
     graph: &mut Graph,
@@ -124,7 +124,8 @@ pub fn explore<R: Rivals>(
     requires begun { IsBegun (R.rivalry rivals.now) graph.old }
     requires empty { frames.old.items ≡ [] }
     ensures explored { Explored (R.rivalry rivals.now) budget result graph.new }
-    ensures memory { OnErr result (side_edges_in (R.rivalry rivals.now) ≤ graph.old.spare → side_edges_in (R.rivalry rivals.now) ≤ vec_capacity frames.old → ⊥) }
+    ensures left { LeavesOne result frames.new.items }
+    ensures memory { OnErr result (LacksSideMemory (R.rivalry rivals.now) graph.old frames.old) }
 {
     let mut at = first_of(0);
     let mut dead: u32 = 0;

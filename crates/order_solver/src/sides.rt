@@ -1,4 +1,4 @@
-// The sides of pairs on a graph: edges from the lasts of one source to another source.
+// The sides of pairs on a graph: edges from the last reads of one source to another source.
 ghost use Rattle.std.specs.Prelude.{◌≡◌, ℕ, ◌<◌, ◌++◌, ◌↔◌, IsTrue, true, All, OnOk, OnErr, length};
 ghost use Rattle.plain_search.specs.Edges.{is_acyclic, Holds, Implies};
 ghost use Rattle.order_graph.specs.Graphs.{edges_of, nodes_of};
@@ -10,13 +10,13 @@ use light_base::Memory;
 use order_graph::{Added, Graph};
 
 // Whether a side closes no cycle: its end leads to none of its starts.
-pub fn is_open(graph: &Graph, lasts: &[u32], source: u32) -> bool
+pub fn is_open(graph: &Graph, last_reads: &[u32], source: u32) -> bool
     requires source { source < nodes_of graph.now }
-    requires lasts { All (λ l. l < nodes_of graph.now) lasts.now }
-    ensures { result ≡ is_acyclic (edges_to lasts.now source ++ edges_of graph.now) }
+    requires last_reads { All (λ l. l < nodes_of graph.now) last_reads.now }
+    ensures { result ≡ is_acyclic (edges_to last_reads.now source ++ edges_of graph.now) }
 {
     graph.acyclic_law();
-    for last in lasts {
+    for last in last_reads {
         if *last != source && graph.before(source, *last) {
             return false;
         }
@@ -25,13 +25,13 @@ pub fn is_open(graph: &Graph, lasts: &[u32], source: u32) -> bool
 }
 
 // Whether the graph implies a side.
-pub fn is_implied(graph: &Graph, lasts: &[u32], source: u32) -> bool
+pub fn is_implied(graph: &Graph, last_reads: &[u32], source: u32) -> bool
     requires source { source < nodes_of graph.now }
-    requires lasts { All (λ l. l < nodes_of graph.now) lasts.now }
-    ensures { IsTrue result ↔ Implies (edges_of graph.now) (edges_to lasts.now source) }
+    requires last_reads { All (λ l. l < nodes_of graph.now) last_reads.now }
+    ensures { IsTrue result ↔ Implies (edges_of graph.now) (edges_to last_reads.now source) }
 {
     graph.acyclic_law();
-    for last in lasts {
+    for last in last_reads {
         if *last != source && !graph.before(*last, source) {
             return false;
         }
@@ -54,18 +54,18 @@ pub fn add_edge(graph: &mut Graph, from: u32, to: u32) -> Result<Added, Memory>
 }
 
 // Adds a side that has to hold, the last of its starts first: earlier ones of a thread are implied then.
-pub fn add_side(graph: &mut Graph, lasts: &[u32], source: u32) -> Result<Added, Memory>
+pub fn add_side(graph: &mut Graph, last_reads: &[u32], source: u32) -> Result<Added, Memory>
     requires source { source < nodes_of graph.old }
-    requires lasts { All (λ l. l < nodes_of graph.old) lasts.now }
-    ensures narrows { Narrows (λ rank. Holds rank (edges_to lasts.now source)) graph.old result graph.new }
-    ensures spends { OnOk result (SpendsAtMost (length (edges_to lasts.now source)) graph.old graph.new) }
-    ensures memory { OnErr result (graph.old.spare < length (edges_to lasts.now source)) }
+    requires last_reads { All (λ l. l < nodes_of graph.old) last_reads.now }
+    ensures narrows { Narrows (λ rank. Holds rank (edges_to last_reads.now source)) graph.old result graph.new }
+    ensures spends { OnOk result (SpendsAtMost (length (edges_to last_reads.now source)) graph.old graph.new) }
+    ensures memory { OnErr result (graph.old.spare < length (edges_to last_reads.now source)) }
 {
-    let mut left = lasts.len();
+    let mut left = last_reads.len();
     while left > 0 {
         left -= 1;
-        if lasts[left] != source {
-            match add_edge(graph, lasts[left], source)? {
+        if last_reads[left] != source {
+            match add_edge(graph, last_reads[left], source)? {
                 Added::In => {}
                 Added::Cycle => return Ok(Added::Cycle),
             }
@@ -75,16 +75,16 @@ pub fn add_side(graph: &mut Graph, lasts: &[u32], source: u32) -> Result<Added, 
 }
 
 // Adds a side where it closes no cycle, else changes nothing.
-pub fn take_side(graph: &mut Graph, lasts: &[u32], source: u32) -> Result<bool, Memory>
+pub fn take_side(graph: &mut Graph, last_reads: &[u32], source: u32) -> Result<bool, Memory>
     requires source { source < nodes_of graph.old }
-    requires lasts { All (λ l. l < nodes_of graph.old) lasts.now }
-    ensures takes { Takes (edges_to lasts.now source) graph.old result graph.new }
-    ensures spends { OnOk result (SpendsAtMost (length (edges_to lasts.now source)) graph.old graph.new) }
-    ensures memory { OnErr result (graph.old.spare < length (edges_to lasts.now source)) }
+    requires last_reads { All (λ l. l < nodes_of graph.old) last_reads.now }
+    ensures takes { Takes (edges_to last_reads.now source) graph.old result graph.new }
+    ensures spends { OnOk result (SpendsAtMost (length (edges_to last_reads.now source)) graph.old graph.new) }
+    ensures memory { OnErr result (graph.old.spare < length (edges_to last_reads.now source)) }
 {
-    if !is_open(graph, lasts, source) {
+    if !is_open(graph, last_reads, source) {
         return Ok(false);
     }
-    let _added = add_side(graph, lasts, source)?;
+    let _added = add_side(graph, last_reads, source)?;
     Ok(true)
 }

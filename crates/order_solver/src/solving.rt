@@ -1,5 +1,5 @@
 // The solver of a log.
-ghost use Rattle.std.specs.Prelude.{◌≡◌, ◌<◌, ◌≤◌, ◌^◌, MatchOption, All, IfOk, OnErr, [], length, map, slice_index_or, vec_capacity};
+ghost use Rattle.std.specs.Prelude.{◌≡◌, ◌<◌, ◌≤◌, ◌^◌, All, IfOk, OnErr, [], length, map, slice_index_or, vec_capacity};
 ghost use Rattle.constraints.specs.Positions.{no_event};
 ghost use Rattle.constraints.specs.Constraints.{side_edges_of};
 ghost use Rattle.order_solver.specs.Prepared.{most_side_edges};
@@ -7,7 +7,6 @@ ghost use Rattle.order_solver.specs.Solving.{Solved};
 
 use crate::finding::{Finding, Prepared, prepare, search_line};
 use crate::guessing::guess_line;
-use crate::side_costs::side_edges_in;
 use constraints::Problem;
 use light_base::{Event, Memory};
 use std::alloc::Global;
@@ -46,15 +45,6 @@ fn events_at(alloc: Global, events: &[Event], positions: &[u32]) -> Result<Vec<E
     Ok(order)
 }
 
-/// The number of edges of the longer side of each of the log's rival pairs, summed over all pairs, where that is at most so
-/// many.
-pub fn side_edges(problem: &Problem, limit: u32) -> Option<u32>
-    ensures { MatchOption result (limit < side_edges_of problem.now) (λ total. (total ≡ side_edges_of problem.now) × (total ≤ limit)) }
-{
-    let _events = problem.events();
-    side_edges_in(problem, limit)
-}
-
 /// A search for an order of a log's events, with its memory.
 ///
 /// It is seen as the log.
@@ -76,7 +66,8 @@ impl<'p> Model for Search<'p> {
 
     ghost view = { λ s. s.problem.now };
 
-    ghost invariant = { λ s. IsPrepared (rivalry_of s.problem.now) s.prepared × (s.order.items ≡ []) × (length (event_list s.problem.now) ≤ vec_capacity s.order) };
+    ghost invariant = { λ s. IsPrepared (rivalry_of s.problem.now) s.prepared × (s.order.items ≡ []) ×
+        (length (event_list s.problem.now) ≤ vec_capacity s.order) };
 }
 
 impl<'p> Search<'p> {

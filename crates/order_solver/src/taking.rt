@@ -22,7 +22,7 @@ pub fn is_lesser_open<R: Rivals>(rivals: &R, graph: &Graph, at: Cursor) -> bool
     ensures { result ≡ is_acyclic ((pair_at (R.rivalry rivals.now) at).lesser ++ edges_of graph.now) }
 {
     let source = rivals.sources(at.word)[at.greater as usize];
-    is_open(graph, rivals.lasts(at.word, at.lesser), source)
+    is_open(graph, rivals.last_reads(at.word, at.lesser), source)
 }
 
 // Whether the greater side of a pair closes no cycle.
@@ -33,7 +33,7 @@ pub fn is_greater_open<R: Rivals>(rivals: &R, graph: &Graph, at: Cursor) -> bool
     ensures { result ≡ is_acyclic ((pair_at (R.rivalry rivals.now) at).greater ++ edges_of graph.now) }
 {
     let source = rivals.sources(at.word)[at.lesser as usize];
-    is_open(graph, rivals.lasts(at.word, at.greater), source)
+    is_open(graph, rivals.last_reads(at.word, at.greater), source)
 }
 
 // Takes the lesser side of a pair where it is open.
@@ -46,7 +46,7 @@ pub fn take_lesser<R: Rivals>(rivals: &R, graph: &mut Graph, at: Cursor) -> Resu
     ensures memory { OnErr result (graph.old.spare < length (pair_at (R.rivalry rivals.now) at).lesser) }
 {
     let source = rivals.sources(at.word)[at.greater as usize];
-    take_side(graph, rivals.lasts(at.word, at.lesser), source)
+    take_side(graph, rivals.last_reads(at.word, at.lesser), source)
 }
 
 // Takes the greater side of a pair where it is open.
@@ -59,5 +59,5 @@ pub fn take_greater<R: Rivals>(rivals: &R, graph: &mut Graph, at: Cursor) -> Res
     ensures memory { OnErr result (graph.old.spare < length (pair_at (R.rivalry rivals.now) at).greater) }
 {
     let source = rivals.sources(at.word)[at.lesser as usize];
-    take_side(graph, rivals.lasts(at.word, at.greater), source)
+    take_side(graph, rivals.last_reads(at.word, at.greater), source)
 }

@@ -4,6 +4,7 @@ pub mod OneEnd
 pub mod Outcomes
 pub mod Choosing
 pub mod Forcing
+pub mod Decided
 pub mod Bound
 pub mod Standing
 pub mod WorkedExamples

@@ -1,6 +1,7 @@
 pub mod Edges
 pub mod Chains
 pub mod Searches
+pub mod Openness
 pub mod Standing
 pub mod EdgeLaws
 pub mod SearchLaws

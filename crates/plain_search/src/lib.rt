@@ -4,6 +4,7 @@
 #![tactic(auto)]
 
 pub mod examples;
+pub mod openness;
 
 ghost use Rattle.plain_search.specs.EdgeLaws.{ReachingIsByWalks, AcyclicHasNoLoop, AcyclicIsRanked, WalksAreByRankings, OneMoreEdge, OneMoreCycle, OneEnd};
 ghost use Rattle.plain_search.specs.SearchLaws.{FoundIsAChoice, FoundIsSolved, NoneIsUnsolved, DeadEndsAreFew, NoneMeetsDeadEnd};

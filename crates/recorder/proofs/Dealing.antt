@@ -4,12 +4,12 @@ use Rattle.std.specs.Prelude.{Option, Some, None, IsSome, slice_index_or, slice_
 use Rattle.std.specs.List.{range_with_len}
 use Rattle.std.specs.Global.{Vec}
 use Rattle.std.proofs.Math.Nat.{mod-lt}
-use Rattle.std.proofs.lemmas.List.{map-append, map-id, map-set, set-set, set-get_or, length-map, length_push, get_or-map, same_from_push}
-use Rattle.std.proofs.lemmas.List.FromFn.{map-range_with_len_more}
+use Rattle.std.proofs.lemmas.List.{map-append, map-set, set-set, set-get_or, length-map, length_push, get_or-map, same_from_push}
 use Rattle.std.proofs.lemmas.List.Elements.{All-push, All-same, All-set, All-get_or}
 use Rattle.machine.specs.Programs.{ProgramValue, LimitsValue}
 use Rattle.machine.specs.Inputs.{InputsValue}
 use Rattle.tagged_words.specs.Views.{SharedWords, Progress}
+use Rattle.history.proofs.Turns.{range-more}
 use Rattle.recorder.specs.declared.thread_runs.Finished.{Finished}
 use Rattle.recorder.specs.Gathered.{IsReady, IsDone, thread_in, thread_of_hand}
 use Rattle.recorder.specs.Grouped.{AreDone, AreReady, hands_in, share, shares, threads_in, threads_of}
@@ -60,10 +60,6 @@ module _ (workers : ℕ) (groups : List (Vec Progress)) (hands : List Progress) 
       map_both groups ∙ ap (map (map thread_of_hand)) is ∙ shares-image thread_of_hand (λ (t : ℕ). t) workers hands ∙ ap (shares (λ (t : ℕ). t) workers) numbered
 
 -- ---- collecting
-
-range-more : (n : ℕ) → range_with_len 0 (n + 1) ≡ range_with_len 0 n ++ n ∷ []
-range-more n =
-    sym (map-id (range_with_len 0 (n + 1))) ∙ map-range_with_len_more (λ (t : ℕ). t) 0 n n (omega arith) ∙ ap (λ (l : List ℕ). l ++ n ∷ []) (map-id (range_with_len 0 n))
 
 pub none-left : (r : Option Finished) → r ≡ None → IsSome r → ⊥
 none-left None e s = cc

@@ -1,19 +1,19 @@
 -- What comes of threads that take turns, when all have ended.
-use Rattle.std.proofs.Common.{◌≡◌, ℕ, true, List, [], ◌∷◌, ◌++◌, map, reverse, refl, sym, ◌∙◌, ap, subst}
+use Rattle.std.proofs.Common.{◌≡◌, ℕ, true, List, [], ◌∷◌, ◌++◌, map, reverse, length, refl, sym, ◌∙◌, ap, subst, arith}
 use Rattle.std.specs.Prelude.{All, Contains, Some}
 use Rattle.std.specs.List.{Any}
 use Rattle.std.proofs.lemmas.List.{map-append, reverse-append}
 use Rattle.std.proofs.lemmas.List.Elements.{All-map, All-pop, All-push, All-same}
 use Rattle.std.proofs.lemmas.List.Sorted.{All-permutation, Contains-permutation, IsPermutation-reverse}
-use Rattle.machine.specs.Cores.{first_state}
 use Rattle.machine.specs.Programs.{ProgramValue, LimitsValue, code_of}
 use Rattle.machine.specs.Inputs.{InputsValue, inputs_of}
 use Rattle.tagged_words.specs.Views.{SharedWords, Progress}
 use Rattle.tagged_words.specs.Hands.{IsOf, new_hand}
 use Rattle.recorder.specs.declared.thread_runs.Finished.{Finished}
-use Rattle.recorder.specs.Running.{Running, IsFinished, HasRun, puts_out}
-use Rattle.recorder.specs.Gathered.{IsDone, hand_in, thread_in, thread_of_hand}
-use Rattle.recorder.specs.Grouped.{AreSame, MayPutOut, RunsIn, hand_of}
+use Rattle.running_thread.specs.Running.{puts_out}
+use Rattle.recorder.specs.Running.{Running, IsFinished, HasRun, HasBegun, new_runner}
+use Rattle.recorder.specs.Gathered.{IsDone, HasBegunIn, hand_in, thread_in, thread_of_hand}
+use Rattle.recorder.specs.Grouped.{AreSame, IsAtStart, MayPutOut, RunsIn, hand_of}
 use Rattle.recorder.proofs.Gathering.{image_there}
 use Rattle.recorder.proofs.Rounds.{popped, same-runs, same-threads}
 
@@ -53,12 +53,41 @@ module _ (runners rest : List Running) (r : Running) (taken : runners ≡ rest +
           (All-push (IsDone words p limits inputs) all f both.1 (ended-done (last-all (RunsIn words p limits inputs) runners rest r taken both.0))),
     )
 
+-- the hand of one that is given back
+module _ (runners rest : List Running) (r : Running) (taken : runners ≡ rest ++ r ∷ []) (hands next : List Progress) (hand : Progress) (put : next ≡ hands ++ hand ∷ []) (is : hand ≡ r.hand) where
+  pub given-order : (total : List Progress) → hands ++ reverse (map hand_of runners) ≡ total → next ++ reverse (map hand_of rest) ≡ total
+  given-order total order =
+      ap (λ (l : List Progress). l ++ reverse (map hand_of rest)) put ∙ ap (λ (h : Progress). (hands ++ h ∷ []) ++ reverse (map hand_of rest)) is ∙
+      popped hand_of hands runners rest r taken ∙ order
+
+  module _ (begun : HasBegun r.program r.limits r.list hand) (words : SharedWords) (p : ProgramValue) (limits : LimitsValue) (inputs : InputsValue) where
+    hand-begun : RunsIn words p limits inputs r → HasBegunIn p limits inputs hand
+    hand-begun runs =
+        let P : ProgramValue → Type 0 = λ q. HasBegun q r.limits r.list hand in
+        let Q : LimitsValue → Type 0 = λ l. HasBegun p l r.list hand in
+        let list : r.list ≡ inputs_of inputs hand.thread = runs.list ∙ ap (λ (h : Progress). inputs_of inputs h.thread) (sym is) in
+        subst (λ (l : List ℕ). HasBegun p limits l hand) list (subst Q runs.bounds (subst P runs.program begun))
+
+    pub begun-each : All (RunsIn words p limits inputs) runners × All (HasBegunIn p limits inputs) hands → All (RunsIn words p limits inputs) rest × All (HasBegunIn p limits inputs) next
+    begun-each both = (
+      front-all (RunsIn words p limits inputs) runners rest r taken both.0,
+      All-same (HasBegunIn p limits inputs) next (hands ++ hand ∷ []) put
+          (All-push (HasBegunIn p limits inputs) hands hand both.1 (hand-begun (last-all (RunsIn words p limits inputs) runners rest r taken both.0))),
+    )
+
+-- of no hands each has begun
+pub none-begun : (p : ProgramValue) (limits : LimitsValue) (inputs : InputsValue) (hands : List Progress) → hands ≡ [] → All (HasBegunIn p limits inputs) hands
+none-begun p limits inputs hands none = λ k d l. absurd (let n = ap length none in omega (arith, n, l))
+
 -- a thread at its start
 pub new-runs : (words : SharedWords) (p : ProgramValue) (limits : LimitsValue) (inputs : InputsValue) (hand : Progress) (list : List ℕ) (r : Running) → hand ≡ new_hand words hand.thread → list ≡ inputs_of inputs hand.thread →
-    r ≡ record { program = p; limits = limits; list = list; core = first_state hand.thread; hand = hand } → RunsIn words p limits inputs r
+    r ≡ new_runner p limits list hand → RunsIn words p limits inputs r
 new-runs words p limits inputs hand list r fresh given is =
     let P : Running → Type 0 = RunsIn words p limits inputs in
     subst P (sym is) (record { program = refl; bounds = refl; list = given; own = ap (λ (h : Progress). h.words) fresh })
+
+pub new-starts : (p : ProgramValue) (limits : LimitsValue) (inputs : InputsValue) (hand : Progress) (list : List ℕ) (r : Running) → list ≡ inputs_of inputs hand.thread → r ≡ new_runner p limits list hand → IsAtStart p limits inputs r
+new-starts p limits inputs hand list r given is = subst (IsAtStart p limits inputs) (sym is) (ap (λ (l : List ℕ). new_runner p limits l hand) given)
 
 -- the hands of those that have started stand the other way round
 pub started-order : (hands rest : List Progress) (hand : Progress) → hands ≡ rest ++ hand ∷ [] → (runners next : List Running) (r : Running) → next ≡ runners ++ r ∷ [] → r.hand ≡ hand →

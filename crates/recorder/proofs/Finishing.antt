@@ -1,6 +1,7 @@
 -- What comes of a thread that has ended.
-use Rattle.std.proofs.Common.{◌≡◌, ℕ, true, List, [], length, take, refl, sym, ◌∙◌, ap, subst}
-use Rattle.std.specs.Prelude.{Option, Some, None, IsSome, option_and_then}
+use Rattle.std.proofs.Common.{◌≡◌, ℕ, ◌<◌, ◌≤◌, true, List, [], length, take, refl, sym, ◌∙◌, ap, subst, arith}
+use Rattle.std.specs.Prelude.{Option, Some, None, IsSome, option_and_then, slice_index_or, Contains}
+use Rattle.std.proofs.lemmas.List.Elements.{Contains-get_or}
 use Rattle.replay_model.specs.declared.Entry.{Entry}
 use Rattle.replay_model.specs.declared.Want.{Want}
 use Rattle.replay_model.specs.declared.Want.TheVariants.{Load, Store, Swap, Cond, Ended}
@@ -11,15 +12,18 @@ use Rattle.replay_model.specs.Threads.{IsRun}
 use Rattle.replay_model.specs.ThreadLogs.{thread_log, is_full}
 use Rattle.replay_model.specs.Logs.{ThreadLog}
 use Rattle.replay_model.specs.RunLogs as logs
+use Rattle.replay_model.proofs.ThreadLogs.{thread_log-stands}
 use Rattle.machine.specs.Programs.{ProgramValue, LimitsValue}
 use Rattle.machine.specs.Inputs.{inputs_of}
 use Rattle.machine.specs.Cores.{State, Report, first_state, pending_want, want_or, end_of, end_or_halted, report_of}
 use Rattle.machine.specs.Runs.{state_from}
 use Rattle.machine.proofs.Runs.{settled_stays}
-use Rattle.dep_log.specs.DepLogs.{DepLogState}
-use Rattle.tagged_words.specs.declared.words.Seen.{Seen}
-use Rattle.recorder.specs.Running.{Running, IsRunning, IsAtEnd, HasRun, threads_with, led_to}
-use Rattle.recorder.proofs.ThreadFacts.{obeys}
+use Rattle.running_thread.specs.declared.thread.RunningThread.{RunningThread}
+use Rattle.running_thread.specs.Threads.{state_with, threads_with}
+use Rattle.running_thread.proofs.Ends.{same-end}
+use Rattle.running_thread.proofs.ThreadFacts.{obeys}
+use Rattle.recorder.specs.declared.hand_words.HandWords.{HandWords}
+use Rattle.recorder.specs.Running.{HasRun, IsRunning}
 
 -- what is pending is an end
 pending-end : (o : Option Want) → IsSome (option_and_then end_of o) → IsSome o × (has_ended (want_or (Ended end.Halted) o) ≡ true)
@@ -29,14 +33,6 @@ pending-end (Some (Store word value)) h = cc
 pending-end (Some (Swap word value)) h = cc
 pending-end (Some (Cond word seen value)) h = cc
 pending-end (Some (Ended e)) h = (refl, refl)
-
--- the end that is reported is the one that is logged
-reported-end : (wanted : Want) → end_or_halted (end_of wanted) ≡ logs.end_of wanted
-reported-end (Load word) = refl
-reported-end (Store word value) = refl
-reported-end (Swap word value) = refl
-reported-end (Cond word seen value) = refl
-reported-end (Ended e) = refl
 
 -- the run of a thread with this input list, and its log
 record RunsWith (p : ProgramValue) (limits : LimitsValue) (list : List ℕ) (t : ℕ) (steps : List Step) (log : ThreadLog) (report : Report) : Type 0 where
@@ -61,32 +57,39 @@ with_inputs p limits list t steps log report runs inputs same =
       reported = here.reported;
     }
 
-module _ (r : Running) (log : DepLogState) (loaded : Option Seen) (taken : List ℕ) (is : IsRunning r log loaded taken) (ended : IsAtEnd r) where
-  end-core : r.core ≡ led_to r
-  end-core = sym (settled_stays r.program r.limits r.list (is_full r.limits.entries r.hand.steps) r.core (pending-end r.core.pending ended).0) ∙ is.core
+module _ (p : ProgramValue) (limits : LimitsValue) (list : List ℕ) (thread : RunningThread) (at : HandWords) (taken : List ℕ) (is : IsRunning p limits list thread at taken) (ended : IsSome (option_and_then end_of thread.core.pending)) where
+  abbrev state : State
+  state = state_with p limits list at.hand.thread at.hand.steps
 
-  pub end-counted : r.core.steps ≡ length r.hand.steps
-  end-counted = ap (λ (s : State). s.steps) end-core ∙ (obeys r.program r.limits r.list r.hand.thread r.hand.steps).counted
+  end-core : thread.core ≡ state
+  end-core = sym (settled_stays p limits list (is_full limits.entries at.hand.steps) thread.core (pending-end thread.core.pending ended).0) ∙ is.is.core
 
-  pub finished : (kept : List ℕ) (made : ThreadLog) (report : Report) → kept ≡ take r.core.taken taken → report ≡ report_of r.core →
-      made ≡ record { entries = log.entries; steps = report.steps; instr = report.instr; end = report.end; taken = kept } → HasRun r.program r.limits r.list r.hand.thread r.hand.steps made report
+  -- each entry ends at one of its steps
+  pub within-steps : (k : ℕ) (d : Entry) → k < length thread.log.entries → (slice_index_or thread.log.entries k d).last ≤ thread.core.steps
+  within-steps k d l =
+      let logged = is.is.logged in
+      let c : Contains (thread_log at.hand.steps) (slice_index_or thread.log.entries k d) = subst (λ (x : List Entry). Contains x (slice_index_or thread.log.entries k d)) logged (Contains-get_or thread.log.entries k d l) in
+      let h = (thread_log-stands at.hand.steps (slice_index_or thread.log.entries k d) c).high in
+      let n = is.is.counted in
+      omega (arith, h, n)
+
+  pub finished : (kept : List ℕ) (made : ThreadLog) (report : Report) → kept ≡ take thread.core.taken taken → report ≡ report_of thread.core →
+      made ≡ record { entries = thread.log.entries; steps = report.steps; instr = report.instr; end = report.end; taken = kept } → HasRun p limits list at.hand.thread at.hand.steps made report
   finished kept made report k e m =
-      let s : State = led_to r in
-      let of : List Entry → Report → List ℕ → ThreadLog = λ entries x list. record { entries = entries; steps = x.steps; instr = x.instr; end = x.end; taken = list } in
-      let list : kept ≡ take s.taken r.list = k ∙ ap (λ (x : State). take x.taken taken) end-core ∙ ap (take s.taken) is.room in
-      let log_of : ℕ → End → ThreadLog = λ n x. record { entries = thread_log r.hand.steps; steps = n; instr = s.instr; end = x; taken = take s.taken r.list } in
-      with_inputs r.program r.limits r.list r.hand.thread r.hand.steps made report (record {
+      let of : List Entry → Report → List ℕ → ThreadLog = λ entries x numbers. record { entries = entries; steps = x.steps; instr = x.instr; end = x.end; taken = numbers } in
+      let numbers : kept ≡ take state.taken list = k ∙ ap (λ (x : State). take x.taken taken) end-core ∙ ap (take state.taken) is.room in
+      let log_of : ℕ → End → ThreadLog = λ n x. record { entries = thread_log at.hand.steps; steps = n; instr = state.instr; end = x; taken = take state.taken list } in
+      with_inputs p limits list at.hand.thread at.hand.steps made report (record {
         run = record {
-          wants = is.begun.wants;
-          lives = is.begun.lives;
-          found = is.begun.found;
-          ends = ap (λ (x : State). has_ended (pending_want x)) (sym end-core) ∙ (pending-end r.core.pending ended).1;
+          wants = is.is.begun.wants;
+          lives = is.is.begun.lives;
+          found = is.is.begun.found;
+          ends = ap (λ (x : State). has_ended (pending_want x)) (sym end-core) ∙ (pending-end thread.core.pending ended).1;
         };
         logged =
-            m ∙ ap (λ (entries : List Entry). of entries report kept) (ap (λ (x : DepLogState). x.entries) is.logged) ∙
-            ap (λ (x : Report). of (thread_log r.hand.steps) x kept) (e ∙ ap report_of end-core) ∙
-            ap (of (thread_log r.hand.steps) (report_of s)) list ∙
-            ap (λ (n : ℕ). log_of n (end_or_halted (end_of (pending_want s)))) (obeys r.program r.limits r.list r.hand.thread r.hand.steps).counted ∙
-            ap (log_of (length r.hand.steps)) (reported-end (pending_want s));
+            m ∙ ap (λ (entries : List Entry). of entries report kept) is.is.logged ∙ ap (λ (x : Report). of (thread_log at.hand.steps) x kept) (e ∙ ap report_of end-core) ∙
+            ap (of (thread_log at.hand.steps) (report_of state)) numbers ∙
+            ap (λ (n : ℕ). log_of n (end_or_halted (end_of (pending_want state)))) (obeys p limits list at.hand.thread at.hand.steps).counted ∙
+            ap (log_of (length at.hand.steps)) (sym (same-end (Some (pending_want state))));
         reported = e ∙ ap report_of end-core;
       })

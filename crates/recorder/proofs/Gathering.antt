@@ -2,6 +2,7 @@
 use Rattle.std.proofs.Common.{◌≡◌, ℕ, zero, suc, ◌+◌, ◌<◌, List, [], ◌∷◌, map, length, refl, sym, ◌∙◌, ap, subst, arith, zero-add}
 use Rattle.std.specs.Prelude.{All, Contains}
 use Rattle.std.specs.List.{range_with_len}
+use Rattle.std.proofs.lemmas.List.{map-id}
 use Rattle.std.proofs.lemmas.List.Elements.{All-map, All-contains}
 use Rattle.std.proofs.lemmas.List.FromFn.{length-range_with_len, get_or-range_with_len}
 use Rattle.light_base.specs.declared.tag.Cell.{Cell}
@@ -65,10 +66,6 @@ run_logs-range : (threads : Threads) (tallies : Tallies) (g : ℕ → List Step)
 run_logs-range threads tallies g from zero = refl
 run_logs-range threads tallies g from (suc n) = ap (λ (l : List ThreadLog). run_log threads tallies from (g from) ∷ l) (run_logs-range threads tallies g (from + 1) n)
 
-map_self : (xs : List ℕ) → map (λ (t : ℕ). t) xs ≡ xs
-map_self [] = refl
-map_self (x ∷ xs) = ap (λ (l : List ℕ). x ∷ l) (map_self xs)
-
 -- ---- the hands that are opened
 
 module _ (words : SharedWords) (p : ProgramValue) (hands : List Progress) (opened : hands ≡ map (new_hand words) (range_with_len 0 (length p.threads))) where
@@ -79,7 +76,7 @@ module _ (words : SharedWords) (p : ProgramValue) (hands : List Progress) (opene
       (λ k d l. (refl, (let n = length-range_with_len 0 (length p.threads) in let at = get_or-range_with_len 0 (length p.threads) k d (omega (arith, n, l)) in omega (arith, n, l, at)))))
 
   pub opened-threads : map thread_of_hand hands ≡ range_with_len 0 (length p.threads)
-  opened-threads = ap (map thread_of_hand) opened ∙ sym (map_by (λ (t : ℕ). t) (new_hand words) thread_of_hand (range_with_len 0 (length p.threads)) (λ t c. refl)) ∙ map_self (range_with_len 0 (length p.threads))
+  opened-threads = ap (map thread_of_hand) opened ∙ sym (map_by (λ (t : ℕ). t) (new_hand words) thread_of_hand (range_with_len 0 (length p.threads)) (λ t c. refl)) ∙ map-id (range_with_len 0 (length p.threads))
 
 -- ---- what all threads did
 
@@ -136,17 +133,17 @@ module _ (p : ProgramValue) (limits : LimitsValue) (inputs : InputsValue) (words
         map_by (λ (t : ℕ). report_of (state_after p limits inputs t (part t list))) (λ (t : ℕ). t)
         (λ (t : ℕ). report_of (state_after p limits inputs t (steps_of (world_after p limits inputs (threads_in list)).threads t))) (range_with_len 0 (length p.threads))
         (λ t c. ap (λ (x : List Step). report_of (state_after p limits inputs t x)) (sym (played-all.steps t (of_range (length p.threads) t c)))) ∙
-        ap (map (λ (t : ℕ). report_of (state_after p limits inputs t (steps_of (world_after p limits inputs (threads_in list)).threads t)))) (map_self (range_with_len 0 (length p.threads)))
+        ap (map (λ (t : ℕ). report_of (state_after p limits inputs t (steps_of (world_after p limits inputs (threads_in list)).threads t)))) (map-id (range_with_len 0 (length p.threads)))
 
     -- it is recorded of this history
-    pub recorded-all : record { log = record { digest = no_digest; limits = limits; threads = map log_in all; lasts = last_tags cells }; reports = map report_in all; finals = map (λ (cell : Cell). cell.value) cells } ≡ recorded_of p limits inputs (threads_in list)
+    pub recorded-all : record { log = record { digest = no_digest; limits = limits; threads = map log_in all; last_tags = last_tags cells }; reports = map report_in all; last_values = map (λ (cell : Cell). cell.value) cells } ≡ recorded_of p limits inputs (threads_in list)
     recorded-all =
-        let made : List ThreadLog → List Tag → List Report → List ℕ → RecordedValue = λ ts tags rs vs. record { log = record { digest = no_digest; limits = limits; threads = ts; lasts = tags }; reports = rs; finals = vs } in
+        let made : List ThreadLog → List Tag → List Report → List ℕ → RecordedValue = λ ts tags rs vs. record { log = record { digest = no_digest; limits = limits; threads = ts; last_tags = tags }; reports = rs; last_values = vs } in
         ap (λ (ts : List ThreadLog). made ts (last_tags cells) (map report_in all) (map (λ (cell : Cell). cell.value) cells)) logs-are ∙
         ap (λ (rs : List Report). made (run_logs (threads_of p limits inputs) (tallies_of p limits inputs) (world_after p limits inputs (threads_in list)).threads) (last_tags cells) rs (map (λ (cell : Cell). cell.value) cells)) reports-are ∙
         ap (λ (m : List Cell). made (run_logs (threads_of p limits inputs) (tallies_of p limits inputs) (world_after p limits inputs (threads_in list)).threads) (last_tags m)
         (reports_of p limits inputs (world_after p limits inputs (threads_in list))) (map (λ (cell : Cell). cell.value) m)) (sym played-all.memory)
 
-    pub formed-all : IsProgram p → AreLimits limits → AreShort inputs → IsWellFormed (record { digest = no_digest; limits = limits; threads = map log_in all; lasts = last_tags cells })
+    pub formed-all : IsProgram p → AreLimits limits → AreShort inputs → IsWellFormed (record { digest = no_digest; limits = limits; threads = map log_in all; last_tags = last_tags cells })
     formed-all rules bounds short =
         subst IsWellFormed (sym (ap (λ (r : RecordedValue). r.log) recorded-all)) (history-formed p limits inputs no_digest (threads_in list) rules bounds short history-all)

@@ -8,8 +8,9 @@ use Rattle.std.proofs.lemmas.List.Sums.{sum_by-set}
 use Rattle.machine.specs.Programs.{ProgramValue, LimitsValue, code_of}
 use Rattle.machine.specs.Inputs.{InputsValue, inputs_of}
 use Rattle.tagged_words.specs.Views.{SharedWords}
-use Rattle.recorder.specs.Running.{Running, IsSame, IsAtEnd, puts_out}
-use Rattle.recorder.specs.Grouped.{RanFor, RunsIn, MayPutOut, AreSame, TookTurns, steps_left}
+use Rattle.running_thread.specs.Running.{puts_out}
+use Rattle.recorder.specs.Running.{Running, IsSame, IsAtEnd}
+use Rattle.recorder.specs.Grouped.{RanFor, RunsIn, MayPutOut, AreSame, TookTurn, TookTurns, RanInRounds, steps_left}
 
 -- what was done, and the rest the other way round: an element goes from the end of the rest to the end of what was done
 pub popped : {A B : Type 0} (f : A → B) (done : List B) (xs ys : List A) (x : A) → xs ≡ ys ++ x ∷ [] → (done ++ f x ∷ []) ++ reverse (map f ys) ≡ done ++ reverse (map f xs)
@@ -94,28 +95,35 @@ same-any a b s (k, x, l, e, m) = puts-at a b k s l (λ d. subst MayPutOut (sym (
 -- ---- a round
 
 -- the turns from the last thread of the list down to the k-th
-pub record IsInRound (old now : List Running) (k : ℕ) (left : Bool) : Type 0 where
+pub record IsInRound (slice : ℕ) (old now : List Running) (k : ℕ) (left : Bool) : Type 0 where
   pub same : AreSame old now
   pub fewer : left ≡ true → steps_left now < steps_left old
   pub most : steps_left now ≤ steps_left old
   pub ended : left ≡ false → (j : ℕ) (d : Running) → k ≤ j → j < length now → IsAtEnd (slice_index_or now j d)
+  pub kept : (j : ℕ) (d : Running) → j < k → slice_index_or now j d ≡ slice_index_or old j d
+  pub turned : (j : ℕ) (d : Running) → k ≤ j → j < length now → TookTurn slice (slice_index_or old j d) (slice_index_or now j d)
 
-pub round-start : (rs : List Running) (k : ℕ) → length rs ≤ k → IsInRound rs rs k false
-round-start rs k l = record {
+pub round-start : (slice : ℕ) (rs : List Running) (k : ℕ) → length rs ≤ k → IsInRound slice rs rs k false
+round-start slice rs k l = record {
   same = same-refl rs;
   fewer = λ h. absurd (cc h);
   most = omega arith;
   ended = λ h j d low high. absurd (omega (arith, l, low, high));
+  kept = λ j d low. refl;
+  turned = λ j d low high. absurd (omega (arith, l, low, high));
 }
 
-pub round-end : (old now : List Running) (left : Bool) → IsInRound old now 0 left → TookTurns old left now
-round-end old now true r = r.fewer refl
-round-end old now false r = λ k d l. r.ended refl k d (omega arith) l
+pub round-end : (slice : ℕ) (old now : List Running) (left : Bool) → IsInRound slice old now 0 left → TookTurns slice old left now
+round-end slice old now left r = record {
+  each = λ k d l. r.turned k d (omega arith) (let n = r.same.count in omega (arith, n, l));
+  fewer = r.fewer;
+  ended = λ h k d l. r.ended h k d (omega arith) l;
+}
 
 abbrev own_left : Running → ℕ
 own_left r = r.limits.steps - length r.hand.steps
 
-module _ (old now : List Running) (k : ℕ) (left : Bool) (is : IsInRound old now (k + 1) left) (there : k < length now) (before after : Running) (at : before ≡ slice_index_or now k before) (same : IsSame before after) where
+module _ (slice : ℕ) (old now : List Running) (k : ℕ) (left : Bool) (is : IsInRound slice old now (k + 1) left) (there : k < length now) (before after : Running) (at : before ≡ slice_index_or now k before) (same : IsSame before after) where
   before-at : (d : Running) → slice_index_or now k d ≡ before
   before-at d = get_or_default now k d before there ∙ sym at
 
@@ -135,11 +143,26 @@ module _ (old now : List Running) (k : ℕ) (left : Bool) (is : IsInRound old no
       go (inl e) = subst IsAtEnd (sym (ap (λ (n : ℕ). slice_index_or (slice_set now k after) n d) e ∙ get_or-set_same now k after d there)) end
       go (inr ne) = subst IsAtEnd (sym (get_or-set_other now k j after d ne)) (is.ended none j d (omega (arith, low, ne)) (let n = length-set now k after in omega (arith, n, high)))
 
-  -- a turn
-  pub round-more : (n : ℕ) (goes_on : Bool) → 1 ≤ n → RanFor before goes_on n after → IsInRound old (slice_set now k after) k (left || goes_on)
-  round-more n goes_on some ran = go left goes_on refl ran
+  kept-more : (j : ℕ) (d : Running) → j < k → slice_index_or (slice_set now k after) j d ≡ slice_index_or old j d
+  kept-more j d low = get_or-set_other now k j after d (λ e. omega (arith, low, e)) ∙ is.kept j d (omega (arith, low))
+
+  turned-more : TookTurn slice before after → (j : ℕ) (d : Running) → k ≤ j → j < length (slice_set now k after) → TookTurn slice (slice_index_or old j d) (slice_index_or (slice_set now k after) j d)
+  turned-more turn j d low high = go (cases_eq j k)
     where
-      go : (l g : Bool) → left ≡ l → RanFor before g n after → IsInRound old (slice_set now k after) k (l || g)
+      go : (j ≡ k) ⊎ (j ≢ k) → TookTurn slice (slice_index_or old j d) (slice_index_or (slice_set now k after) j d)
+      go (inl e) =
+          let first : before ≡ slice_index_or old j d = sym (ap (λ (n : ℕ). slice_index_or old n d) e ∙ sym (is.kept k d (omega arith)) ∙ before-at d) in
+          let last : after ≡ slice_index_or (slice_set now k after) j d = sym (ap (λ (n : ℕ). slice_index_or (slice_set now k after) n d) e ∙ get_or-set_same now k after d there) in
+          subst (λ (x : Running). TookTurn slice x (slice_index_or (slice_set now k after) j d)) first (subst (TookTurn slice before) last turn)
+      go (inr ne) =
+          subst (TookTurn slice (slice_index_or old j d)) (sym (get_or-set_other now k j after d ne))
+          (is.turned j d (omega (arith, low, ne)) (let n = length-set now k after in omega (arith, n, high)))
+
+  -- a turn
+  pub round-more : (goes_on : Bool) → 1 ≤ slice → RanFor before goes_on slice after → IsInRound slice old (slice_set now k after) k (left || goes_on)
+  round-more goes_on some ran = go left goes_on refl ran
+    where
+      go : (l g : Bool) → left ≡ l → RanFor before g slice after → IsInRound slice old (slice_set now k after) k (l || g)
       go l true e r =
           let less : own_left after < own_left before = (let a = r.0 in let b = r.1 in let c = same-limits in omega (arith, a, b, c, some)) in
           let less-all : steps_left (slice_set now k after) < steps_left old = (let s = sums in let m = is.most in omega (arith, s, less, m)) in
@@ -148,6 +171,8 @@ module _ (old now : List Running) (k : ℕ) (left : Bool) (is : IsInRound old no
             fewer = λ h. less-all;
             most = omega (arith, less-all);
             ended = by l;
+            kept = kept-more;
+            turned = turned-more (true, r);
           }
         where
           by : (l : Bool) → l || true ≡ false → (j : ℕ) (d : Running) → k ≤ j → j < length (slice_set now k after) → IsAtEnd (slice_index_or (slice_set now k after) j d)
@@ -160,6 +185,8 @@ module _ (old now : List Running) (k : ℕ) (left : Bool) (is : IsInRound old no
             fewer = λ h. let s = sums in let f = is.fewer e in omega (arith, s, most, f);
             most = let s = sums in let m = is.most in omega (arith, s, most, m);
             ended = λ h. absurd (cc h);
+            kept = kept-more;
+            turned = turned-more (false, r);
           }
       go false false e r =
           let most : own_left after ≤ own_left before = (let a = r.0 in let c = same-limits in omega (arith, a, c)) in
@@ -168,11 +195,21 @@ module _ (old now : List Running) (k : ℕ) (left : Bool) (is : IsInRound old no
             fewer = λ h. absurd (cc h);
             most = let s = sums in let m = is.most in omega (arith, s, most, m);
             ended = λ h. ended-more r.1 e;
+            kept = kept-more;
+            turned = turned-more (false, r);
           }
 
   -- where one is left already, it stays so
-  pub round-left : (n : ℕ) (goes_on : Bool) → 1 ≤ n → RanFor before goes_on n after → left ≡ true → IsInRound old (slice_set now k after) k left
-  round-left n goes_on some ran h = subst (IsInRound old (slice_set now k after) k) (ap (λ (l : Bool). l || goes_on) h ∙ sym h) (round-more n goes_on some ran)
+  pub round-left : (goes_on : Bool) → 1 ≤ slice → RanFor before goes_on slice after → left ≡ true → IsInRound slice old (slice_set now k after) k left
+  round-left goes_on some ran h = subst (IsInRound slice old (slice_set now k after) k) (ap (λ (l : Bool). l || goes_on) h ∙ sym h) (round-more goes_on some ran)
 
-  pub round-on : (n : ℕ) (goes_on : Bool) → 1 ≤ n → RanFor before goes_on n after → left ≡ false → IsInRound old (slice_set now k after) k goes_on
-  round-on n goes_on some ran h = subst (IsInRound old (slice_set now k after) k) (ap (λ (l : Bool). l || goes_on) h) (round-more n goes_on some ran)
+  pub round-on : (goes_on : Bool) → 1 ≤ slice → RanFor before goes_on slice after → left ≡ false → IsInRound slice old (slice_set now k after) k goes_on
+  round-on goes_on some ran h = subst (IsInRound slice old (slice_set now k after) k) (ap (λ (l : Bool). l || goes_on) h) (round-more goes_on some ran)
+
+-- ---- rounds
+
+pub no-round : (slice : ℕ) (rs : List Running) → RanInRounds slice rs rs
+no-round slice rs = (0, refl)
+
+pub round-after : (slice : ℕ) (firsts before lasts : List Running) (left : Bool) → RanInRounds slice firsts before → TookTurns slice before left lasts → RanInRounds slice firsts lasts
+round-after slice firsts before lasts left (n, rounds) turns = (suc n, (before, left, rounds, turns))

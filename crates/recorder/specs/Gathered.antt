@@ -2,16 +2,20 @@
 use Rattle.std.specs.Prelude.{◌≡◌, ℕ, ◌<◌, length}
 use Rattle.replay_model.specs.Logs.{ThreadLog}
 use Rattle.machine.specs.Programs.{ProgramValue, LimitsValue}
-use Rattle.machine.specs.Inputs.{InputsValue}
+use Rattle.machine.specs.Inputs.{InputsValue, inputs_of}
 use Rattle.machine.specs.Cores.{Report}
 use Rattle.tagged_words.specs.Views.{SharedWords, Progress}
 use Rattle.tagged_words.specs.Hands.{IsOf, new_hand}
 use Rattle.recorder.specs.declared.thread_runs.Finished.{Finished}
-use Rattle.recorder.specs.Running.{IsFinished}
+use Rattle.recorder.specs.Running.{IsFinished, HasBegun}
 
 -- a hand of these words whose thread is one of the program's, and has taken no step
 abbrev pub IsReady : SharedWords → ProgramValue → Progress → Type 0
 IsReady words p hand = (hand ≡ new_hand words hand.thread) × (hand.thread < length p.threads)
+
+-- the hand has the steps of a run of its thread that has begun
+abbrev pub HasBegunIn : ProgramValue → LimitsValue → InputsValue → Progress → Type 0
+HasBegunIn p limits inputs hand = HasBegun p limits (inputs_of inputs hand.thread) hand
 
 -- its thread has run to its end at these words
 abbrev pub IsDone : SharedWords → ProgramValue → LimitsValue → InputsValue → Finished → Type 0

@@ -1,5 +1,6 @@
 pub mod Records
 pub mod ThreadLogs
+pub mod HandWords
 pub mod Running
 pub mod Gathered
 pub mod Grouped

@@ -5,8 +5,8 @@
 #![tactic(auto)]
 
 mod entries;
-mod gate;
 mod groups;
+mod hand_words;
 mod recorded;
 mod runner;
 mod thread_logs;
@@ -15,9 +15,9 @@ mod threads;
 mod turns;
 mod workers;
 
-pub use gate::{Gate, OpenGate};
 pub use groups::{BrokenGroup, run_group};
 pub use recorded::Recorded;
+pub use running_thread::{Gate, OpenGate};
 pub use thread_runs::{Broken, Finished, run_thread};
 pub use threads::{record, record_workers};
 pub use turns::record_turns;

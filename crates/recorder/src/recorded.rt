@@ -10,7 +10,7 @@ use std::marker::Model;
 pub struct Recorded {
     log: RunLog,
     reports: Vec<RunReport>,
-    finals: Vec<u32>,
+    last_values: Vec<u32>,
 }
 
 impl Model for Recorded {
@@ -18,18 +18,18 @@ impl Model for Recorded {
 
     ghost Value = { RecordedValue };
 
-    ghost view = { λ r. record { log = r.log; reports = r.reports.items; finals = r.finals.items } };
+    ghost view = { λ r. record { log = r.log; reports = r.reports.items; last_values = r.last_values.items } };
 }
 
 impl Recorded {
     // The record with these parts.
-    pub(crate) fn new(log: RunLog, reports: Vec<RunReport>, finals: Vec<u32>) -> Recorded
-        ensures { result ≡ record { log = log; reports = reports.items; finals = finals.items } }
+    pub(crate) fn new(log: RunLog, reports: Vec<RunReport>, last_values: Vec<u32>) -> Recorded
+        ensures { result ≡ record { log = log; reports = reports.items; last_values = last_values.items } }
     {
         Recorded {
             log,
             reports,
-            finals,
+            last_values,
         }
     }
 
@@ -49,17 +49,17 @@ impl Recorded {
 
     /// The last value of each word.
     pub fn finals(&self) -> &[u32]
-        ensures { result.now ≡ self.now.finals }
+        ensures { result.now ≡ self.now.last_values }
     {
-        &self.finals
+        &self.last_values
     }
 
     /// The log, the threads' reports and the last values.
     pub fn into_parts(self) -> (RunLog, Vec<RunReport>, Vec<u32>)
         ensures log { result.0 ≡ self.log }
         ensures reports { result.1.items ≡ self.reports }
-        ensures finals { result.2.items ≡ self.finals }
+        ensures last_values { result.2.items ≡ self.last_values }
     {
-        (self.log, self.reports, self.finals)
+        (self.log, self.reports, self.last_values)
     }
 }

@@ -1,8 +1,8 @@
 // One thread that runs to its end at shared words.
-ghost use Rattle.std.specs.Prelude.{◌≡◌, ◌<◌, ◌≤◌, ◌⊎◌, true, [], IfOk, IfErr, length};
-ghost use Rattle.machine.specs.Programs.{code_of};
+ghost use Rattle.std.specs.Prelude.{◌≡◌, ◌<◌, ◌≤◌, ◌⊎◌, IfOk, IfErr, length};
+ghost use Rattle.machine.specs.Inputs.{most_inputs};
 ghost use Rattle.tagged_words.specs.Hands.{IsOf, new_hand};
-ghost use Rattle.recorder.specs.Running.{HasRun, puts_out};
+ghost use Rattle.recorder.specs.Running.{HasBegun, HasRun, PutsOut, TookNoStep};
 
 use crate::Gate;
 use crate::runner::Runner;
@@ -27,7 +27,8 @@ pub struct Broken {
 }
 
 /// Runs a thread to its end at the words, with its input list of at most 65,536 numbers. The steps of its hand are then
-/// exactly the memory steps of the run that the log and the report describe.
+/// exactly the memory steps of the run that the log and the report describe; after an `Err` they are the first ones of such
+/// a run.
 ///
 /// The gate is passed before each memory step. All memory but for output is taken before the first of them: an `Err` comes
 /// only where no step was taken, or the thread's code has an `out`.
@@ -43,11 +44,12 @@ pub fn run_thread<G: Gate>(
     requires fresh { hand ≡ new_hand words.now hand.thread }
     requires thread { hand.thread < length program.now.threads }
     requires words { length words.now.start.initial ≡ length program.now.words }
-    requires inputs { length inputs.now ≤ 65536 }
+    requires inputs { length inputs.now ≤ most_inputs }
     ensures own { IfOk result (λ f. IsOf words.now f.hand × (f.hand.thread ≡ hand.thread)) }
     ensures run { IfOk result (λ f. HasRun program.now limits.now inputs.now hand.thread f.hand.steps f.log f.report) }
     ensures broken { IfErr result (λ b. IsOf words.now b.hand × (b.hand.thread ≡ hand.thread)) }
-    ensures memory { IfErr result (λ b. (b.hand.steps ≡ []) ⊎ (puts_out (code_of program.now hand.thread) ≡ true)) }
+    ensures begun { IfErr result (λ b. HasBegun program.now limits.now inputs.now b.hand) }
+    ensures memory { IfErr result (λ b. TookNoStep b.hand ⊎ PutsOut program.now hand) }
 {
     // So it ends before it has taken as many steps as it is asked for.
     prove!(limits.steps() < u32::MAX);

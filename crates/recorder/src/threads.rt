@@ -1,10 +1,8 @@
 // Recording on threads.
-ghost use Rattle.std.specs.Prelude.{◌≡◌, ℕ, ◌≤◌, List, All, IfOk, length, map};
+ghost use Rattle.std.specs.Prelude.{◌≡◌, ◌≤◌, All, IfOk, length, map};
 ghost use Rattle.std.specs.List.{range_with_len};
-ghost use Rattle.history.specs.Histories.{IsHistory};
-ghost use Rattle.replay_model.specs.RunLogs.{last_tags};
 ghost use Rattle.replay_model.specs.WellFormed.{IsWellFormed};
-ghost use Rattle.recorder.specs.Records.{no_digest, recorded_of};
+ghost use Rattle.recorder.specs.Records.{IsRecordOf, log_without_digest, recorded_from, values_in};
 ghost use Rattle.recorder.specs.Gathered.{IsDone, hand_in, log_in, report_in, thread_in};
 
 use crate::Gate;
@@ -42,7 +40,7 @@ fn parted(
 
 // The value of each word.
 fn values(alloc: Global, cells: &[Cell]) -> Result<Vec<u32>, Memory>
-    ensures { IfOk result (λ values. values.items ≡ map (λ cell. cell.value) cells.now) }
+    ensures { IfOk result (λ values. values.items ≡ values_in cells.now) }
 {
     let values = cells.iter().map(|cell| cell.value).collect(alloc)?;
     Ok(values)
@@ -56,13 +54,13 @@ fn recorded(
     logs: Vec<ThreadLog>,
     reports: Vec<RunReport>,
 ) -> Result<Recorded, Memory>
-    requires { IsWellFormed record { digest = no_digest; limits = limits.now; threads = logs.items; lasts = last_tags cells.now } }
-    ensures { IfOk result (λ recorded. recorded ≡ record { log = record { digest = no_digest; limits = limits.now; threads = logs.items; lasts = last_tags cells.now }; reports = reports.items; finals = map (λ cell. cell.value) cells.now }) }
+    requires { IsWellFormed (log_without_digest limits.now cells.now logs.items) }
+    ensures { IfOk result (λ recorded. recorded ≡ recorded_from limits.now cells.now logs.items reports.items) }
 {
-    let lasts = last_tags(alloc, cells)?;
-    let finals = values(alloc, cells)?;
-    let log = RunLog::new([0; 32], *limits, logs, lasts);
-    Ok(Recorded::new(log, reports, finals))
+    let tags = last_tags(alloc, cells)?;
+    let last_values = values(alloc, cells)?;
+    let log = RunLog::new([0; 32], *limits, logs, tags);
+    Ok(Recorded::new(log, reports, last_values))
 }
 
 // What is recorded of all threads, which have ended, and of the words that they shared.
@@ -77,7 +75,7 @@ fn gather(
     requires start { words.start ≡ record { initial = program.now.words; threads = length program.now.threads } }
     requires each { All (IsDone words program.now limits.now inputs.now) all.items }
     requires threads { map thread_in all.items ≡ range_with_len 0 (length program.now.threads) }
-    ensures { IfOk result (λ recorded. (history : List ℕ) × IsHistory program.now limits.now inputs.now history × (recorded ≡ recorded_of program.now limits.now inputs.now history)) }
+    ensures { IfOk result (IsRecordOf program.now limits.now inputs.now) }
 {
     // So the log of a history of the program is well formed.
     prove!(program.words().len() <= 4096);
@@ -107,7 +105,7 @@ pub fn record_workers<R: Threads + Sync, G: Gate>(
     requires listed { length inputs.now ≡ length program.now.threads }
     requires workers { (1 ≤ workers) × (workers ≤ 15) }
     requires slice { 1 ≤ slice }
-    ensures { IfOk result (λ recorded. (history : List ℕ) × IsHistory program.now limits.now inputs.now history × (recorded ≡ recorded_of program.now limits.now inputs.now history)) }
+    ensures { IfOk result (IsRecordOf program.now limits.now inputs.now) }
 {
     let threads = program.threads_count() as u8;
     let (words, hands) = Words::open(alloc, program.words(), threads)?;
@@ -130,7 +128,7 @@ pub fn record<R: Threads + Sync, G: Gate>(
     gate: &G,
 ) -> Result<Recorded, Memory>
     requires { length inputs.now ≡ length program.now.threads }
-    ensures { IfOk result (λ recorded. (history : List ℕ) × IsHistory program.now limits.now inputs.now history × (recorded ≡ recorded_of program.now limits.now inputs.now history)) }
+    ensures { IfOk result (IsRecordOf program.now limits.now inputs.now) }
 {
     let workers = program.threads_count() as u8;
     record_workers(rt, alloc, program, limits, inputs, workers, u32::MAX, gate)

@@ -76,12 +76,12 @@ fn record(
     prove!(limits.entries() <= 16_384);
     prove!(inputs.threads_count() <= 15);
     let all = all_entries(alloc, &plain, program.threads_count() as u8)?;
-    let lasts = last_tags(alloc, plain.cells())?;
-    let finals = plain.values()?;
+    let tags = last_tags(alloc, plain.cells())?;
+    let last_values = plain.values()?;
     let reports = plain.into_reports()?;
     let threads = thread_logs(alloc, inputs, all, &reports)?;
-    let log = RunLog::new([0; 32], *limits, threads, lasts);
-    Ok(Recorded::new(log, reports, finals))
+    let log = RunLog::new([0; 32], *limits, threads, tags);
+    Ok(Recorded::new(log, reports, last_values))
 }
 
 // Who wrote each word last.

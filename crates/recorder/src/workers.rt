@@ -2,11 +2,8 @@
 ghost use Rattle.std.specs.Prelude.{◌≡◌, ◌%◌, ◌<◌, ◌≤◌, [], All, IfOk, length, map, replicate};
 ghost use Rattle.std.specs.List.{range_with_len};
 ghost use Rattle.std.specs.Thread.{IsSync};
-ghost use Rattle.machine.specs.Programs.{ProgramValue, LimitsValue};
-ghost use Rattle.machine.specs.Inputs.{InputsValue};
-ghost use Rattle.tagged_words.specs.Views.{SharedWords};
-ghost use Rattle.recorder.specs.Gathered.{IsDone, thread_in, thread_of_hand};
-ghost use Rattle.recorder.specs.Grouped.{AreDone, AreReady, hands_in, shares, threads_in, threads_of};
+ghost use Rattle.recorder.specs.Gathered.{thread_in, thread_of_hand};
+ghost use Rattle.recorder.specs.Grouped.{AreDone, AreReady, CameOfGroups, MayRun, hands_in, shares, threads_in, threads_of};
 
 use crate::Gate;
 use crate::groups::run_group;
@@ -105,7 +102,7 @@ pub(crate) fn run_groups<R: Threads + Sync, G: Gate>(
     let (front, back) = join(
         rt,
         move || -> Result<Vec<Vec<Finished>>, Memory>
-            requires { IsSync R.row × IsSync G.row × All (AreReady words.now program.now) groups.items × (length words.now.start.initial ≡ length program.now.words) × (length inputs.now ≡ length program.now.threads) × (1 ≤ slice) }
+            requires { IsSync R.row × IsSync G.row × MayRun words.now program.now inputs.now slice groups.items }
             ensures each { IfOk result (λ all. All (AreDone words.entry.now program.entry.now limits.entry.now inputs.entry.now) all.items) }
             ensures threads { IfOk result (λ all. map threads_in all.items ≡ map threads_of groups.items) }
         {
@@ -114,7 +111,7 @@ pub(crate) fn run_groups<R: Threads + Sync, G: Gate>(
             )
         },
         move || -> Result<Vec<Vec<Finished>>, Memory>
-            requires { IsSync R.row × IsSync G.row × All (AreReady words.now program.now) others.items × (length words.now.start.initial ≡ length program.now.words) × (length inputs.now ≡ length program.now.threads) × (1 ≤ slice) }
+            requires { IsSync R.row × IsSync G.row × MayRun words.now program.now inputs.now slice others.items }
             ensures each { IfOk result (λ all. All (AreDone words.entry.now program.entry.now limits.entry.now inputs.entry.now) all.items) }
             ensures threads { IfOk result (λ all. map threads_in all.items ≡ map threads_of others.items) }
         {
@@ -138,7 +135,7 @@ pub(crate) fn collected(
 ) -> Result<Vec<Finished>, Memory>
     requires workers { 1 ≤ workers }
     requires shared { map threads_in groups.items ≡ shares (λ t. t) workers (range_with_len 0 threads) }
-    ensures each { (words : SharedWords) (p : ProgramValue) (limits : LimitsValue) (inputs : InputsValue) → All (AreDone words p limits inputs) groups.items → IfOk result (λ all. All (IsDone words p limits inputs) all.items) }
+    ensures each { IfOk result (λ all. CameOfGroups groups.items all.items) }
     ensures threads { IfOk result (λ all. map thread_in all.items ≡ range_with_len 0 threads) }
 {
     let mut all = Vec::with_capacity(alloc, usize::from(threads))?;

@@ -12,7 +12,7 @@ use Rattle.replay_model.specs.Fitting.{Fits}
 use Rattle.replay_model.specs.SkipPlay.{skip_play, ShowsRuns}
 use Rattle.replay_model.specs.Events.{events_of}
 use Rattle.replay_model.specs.WholeHistories.{IsWholeHistory, played, history_log, history_order}
-use Rattle.replay_laws.proofs.Told.{grounded_finals}
+use Rattle.replay_laws.proofs.Told.{grounded_last_values}
 use Rattle.replay_laws.proofs.Shown.{fit_shown}
 use Rattle.replay_laws.proofs.Verdict.{sound_fits}
 use Rattle.replay_laws.proofs.Linear.{going, history_linear}
@@ -37,7 +37,7 @@ module _ (threads : Threads) (tallies : Tallies) (digest : List ℕ) (limits : L
   -- the runs of a whole history fit its log
   pub history_fits : Fits threads tallies initial (history_log threads tallies digest limits initial count history) (played threads initial count history).threads
   history_fits = sound_fits threads tallies initial (history_log threads tallies digest limits initial count history) (played threads initial count history)
-      (going threads initial count history within only whole.legal).sound (record { logs = refl; lasts = refl }) whole.whole
+      (going threads initial count history within only whole.legal).sound (record { logs = refl; last_tags = refl }) whole.whole
 
   -- each word ends with the value that its last tag names
   pub history_shows : ShowsRuns initial (history_log threads tallies digest limits initial count history) (played threads initial count history).threads (played threads initial count history)
@@ -46,7 +46,7 @@ module _ (threads : Threads) (tallies : Tallies) (digest : List ℕ) (limits : L
       record {
         threads = refl;
         tags = refl;
-        values = grounded_finals initial (played threads initial count history).threads (played threads initial count history).memory (last_tags (played threads initial count history).memory) refl s.sized s.memory;
+        values = grounded_last_values initial (played threads initial count history).threads (played threads initial count history).memory (last_tags (played threads initial count history).memory) refl s.sized s.memory;
       }
 
   -- the history's order respects its log

@@ -1,6 +1,7 @@
 pub mod Bridge
 pub mod Places
 pub mod Skip
+pub mod Kept
 pub mod NextSteps
 pub mod Advance
 pub mod Turns

@@ -26,14 +26,14 @@ IsSourceAt runs all i word tag =
     ((s : Event) × (v : ℕ) × (tag ≡ Some s) × HasWritten runs s word v × (place all s < i) × ((e : Event) (v : ℕ) → HasWritten runs e word v → place all e < i → place all e ≤ place all s))
 
 -- each step of the runs stands once in the order, those of a thread by rising number; each read saw the latest write; the last tags are those of the latest writes
-pub record IsLinear (size : ℕ) (runs : List (List Step)) (all : List Event) (lasts : List Tag) : Type 0 where
+pub record IsLinear (size : ℕ) (runs : List (List Step)) (all : List Event) (last_tags : List Tag) : Type 0 where
   pub placed : (e : Event) → 1 ≤ e.step → e.step ≤ length (steps_of runs e.thread) → place all e < length all
   pub taken : (e : Event) → Contains all e → (1 ≤ e.step) × (e.step ≤ length (steps_of runs e.thread))
   pub once : IsOnce all
   pub rising : (a b : Event) → 1 ≤ a.step → b.step ≤ length (steps_of runs b.thread) → a.thread ≡ b.thread → a.step < b.step → place all a < place all b
   pub read : (e : Event) (word : ℕ) (tag : Tag) → 1 ≤ e.step → e.step ≤ length (steps_of runs e.thread) → saw word tag (step_at runs e) ≡ true →
       (word < size) × IsSourceAt runs all (place all e) word tag
-  pub final : (word : ℕ) → word < size → IsSourceAt runs all (length all) word (slice_index_or lasts word None)
+  pub final : (word : ℕ) → word < size → IsSourceAt runs all (length all) word (slice_index_or last_tags word None)
 
 -- a history has as many events as steps
 pub events_of-length : (threads : Threads) (history : List ℕ) (world : World) → length (events_of threads history world) ≡ length history

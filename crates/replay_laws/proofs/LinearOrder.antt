@@ -17,7 +17,7 @@ use Rattle.replay_laws.proofs.Linear.{IsSourceAt, IsLinear}
 use Rattle.replay_laws.proofs.LinearReads.{told, last_read, event_placed, source_before, before_last}
 
 module _ (threads : Threads) (tallies : Tallies) (initial : List ℕ) (log : Log) (runs : List (List Step)) (all : List Event)
-    (fits : Fits threads tallies initial log runs) (linear : IsLinear (length initial) runs all log.lasts) where
+    (fits : Fits threads tallies initial log runs) (linear : IsLinear (length initial) runs all log.last_tags) where
   le : (a b : Event) → IsEvent log a → IsEvent log b → place all a ≤ place all b → place (filter (is_event log) all) a ≤ place (filter (is_event log) all) b
   le a b ea eb l = place_filter-le (is_event log) all a b (event-is_event log a ea) (event-is_event log b eb) (event_placed threads tallies initial log runs all fits linear a ea) l
 
@@ -81,11 +81,11 @@ module _ (threads : Threads) (tallies : Tallies) (initial : List ℕ) (log : Log
               absurd (omega arith)
       go (inr (z, v, zq, zw, zd, latest)) = (z, zq, near (cases_lt (place all z) (place all (last_event t a))))
         where
-          wl2 : a.word < length log.lasts
+          wl2 : a.word < length log.last_tags
           wl2 = let s = fits.words in let w = wl in omega arith
 
           kept : IsEvent log z
-          kept = inl (inr (a.word, wl2, get_or_default log.lasts a.word (Some z) None wl2 ∙ zq))
+          kept = inl (inr (a.word, wl2, get_or_default log.last_tags a.word (Some z) None wl2 ∙ zq))
 
           near : (place all z < place all (last_event t a)) ⊎ (place all (last_event t a) ≤ place all z) → place (filter (is_event log) all) (last_event t a) ≤ place (filter (is_event log) all) z
           near (inr l) = le (last_event t a) z (inr (t, a, ca, inr refl)) kept l

@@ -19,7 +19,7 @@ use Rattle.replay_laws.proofs.Told.{told_by_fit}
 use Rattle.replay_laws.proofs.Linear.{IsSourceAt, IsLinear}
 
 module _ (threads : Threads) (tallies : Tallies) (initial : List ℕ) (log : Log) (runs : List (List Step)) (all : List Event)
-    (fits : Fits threads tallies initial log runs) (linear : IsLinear (length initial) runs all log.lasts) where
+    (fits : Fits threads tallies initial log runs) (linear : IsLinear (length initial) runs all log.last_tags) where
   -- what the log tells of its runs
   pub told : Told initial log runs
   told = told_by_fit threads tallies initial log runs fits

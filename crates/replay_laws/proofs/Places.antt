@@ -79,28 +79,28 @@ entry_thread log t entry (k, l, h) = go (cases_lt t (length log.threads))
 
 -- the test on kept writes decides
 pub keeps-kept : (log : Log) (event : Event) → keeps log event ≡ true → IsKept log event
-keeps-kept log event h = go (or_cases (list_any (names_source (Some event)) log.threads) (list_any (same_tag (Some event)) log.lasts) h)
+keeps-kept log event h = go (or_cases (list_any (names_source (Some event)) log.threads) (list_any (same_tag (Some event)) log.last_tags) h)
   where
-    go : (list_any (names_source (Some event)) log.threads ≡ true) ⊎ (list_any (same_tag (Some event)) log.lasts ≡ true) → IsKept log event
+    go : (list_any (names_source (Some event)) log.threads ≡ true) ⊎ (list_any (same_tag (Some event)) log.last_tags ≡ true) → IsKept log event
     go (inl x) =
         let (thread, (t, tl, at), y) = any-element (names_source (Some event)) log.threads x in
         let (entry, c, z) = any-element (λ (a : Entry). same_tag a.source (Some event)) thread.entries y in
         let s : thread_of log t ≡ thread = get_or_default log.threads t no_thread thread tl ∙ at in
         inl (t, entry, subst (λ (x : ThreadLog). Contains x.entries entry) (sym s) c, same_tag-true entry.source (Some event) z)
     go (inr x) =
-        let (tag, c, z) = any-element (same_tag (Some event)) log.lasts x in
-        inr (subst (Contains log.lasts) (sym (same_tag-true (Some event) tag z)) c)
+        let (tag, c, z) = any-element (same_tag (Some event)) log.last_tags x in
+        inr (subst (Contains log.last_tags) (sym (same_tag-true (Some event) tag z)) c)
 
 -- and the other way round
 pub kept-keeps : (log : Log) (event : Event) → IsKept log event → keeps log event ≡ true
 kept-keeps log event (inl (t, entry, c, q)) =
     let l = entry_thread log t entry c in
-    or_left (list_any (names_source (Some event)) log.threads) (list_any (same_tag (Some event)) log.lasts)
+    or_left (list_any (names_source (Some event)) log.threads) (list_any (same_tag (Some event)) log.last_tags)
     (element-any (names_source (Some event)) log.threads (thread_of log t) (Contains-get_or log.threads t no_thread l)
     (element-any (λ (a : Entry). same_tag a.source (Some event)) (thread_of log t).entries entry c (subst (λ (x : Tag). same_tag x (Some event) ≡ true) (sym q) (same_event-same event))))
 kept-keeps log event (inr c) =
-    or_right (list_any (names_source (Some event)) log.threads) (list_any (same_tag (Some event)) log.lasts)
-    (element-any (same_tag (Some event)) log.lasts (Some event) c (same_event-same event))
+    or_right (list_any (names_source (Some event)) log.threads) (list_any (same_tag (Some event)) log.last_tags)
+    (element-any (same_tag (Some event)) log.last_tags (Some event) c (same_event-same event))
 
 -- so does the test on firsts and lasts
 pub is_bound-bound : (log : Log) (event : Event) → is_bound log event ≡ true → IsBound log event

@@ -9,7 +9,7 @@ use Rattle.replay_model.specs.Threads.{Threads, EndsWithin, IsRun}
 use Rattle.replay_model.specs.Histories.{steps_of}
 use Rattle.replay_model.specs.Logs.{Log, HasEntry, last_tag}
 use Rattle.replay_model.specs.RunLogs.{Tallies, last_tags}
-use Rattle.replay_model.specs.Fitting.{step_at, HasWritten, IsGrounded, Fits, final_value, finals_from}
+use Rattle.replay_model.specs.Fitting.{step_at, HasWritten, IsGrounded, Fits, last_value, last_values_from}
 use Rattle.replay_model.proofs.Moves.{in_range}
 use Rattle.replay_model.proofs.ThreadLogs.{nth, saw-found, thread_log-covers, thread_log-stands}
 use Rattle.replay_model.proofs.RunLogs.{entry-logged, logged-entry}
@@ -33,7 +33,7 @@ told_by_fit threads tallies initial log runs fits = record {
   inside = λ t entry c.
       let s = thread_log-stands (steps_of runs t) entry (entry-logged threads tallies log runs fits.logs t entry c).1 in (s.low, s.between, s.high);
   sources = λ t entry event c q. sources t entry event c q;
-  lasts = λ event c. ends event c;
+  last_tags = λ event c. ends event c;
 }
   where
     sources : (t : ℕ) (entry : Entry) (event : Event) → HasEntry log t entry → entry.source ≡ Some event → (value : ℕ) × HasWritten runs event entry.word value
@@ -44,12 +44,12 @@ told_by_fit threads tallies initial log runs fits = record {
         let g = fits.grounded t (entry.first - 1) cell (omega arith) fq in
         (cell.value, subst (λ (x : ℕ). HasWritten runs event x cell.value) wq (grounded_writes initial runs _ cell event g (tq ∙ q)))
 
-    ends : (event : Event) → Contains log.lasts (Some event) →
+    ends : (event : Event) → Contains log.last_tags (Some event) →
         (word value : ℕ) × (word < length initial) × (last_tag log word ≡ Some event) × HasWritten runs event word value
     ends event (k, l, h) =
         let w : k < length initial = let y = fits.words in omega arith in
-        let q : last_tag log k ≡ Some event = get_or_default log.lasts k None (Some event) l ∙ h in
-        let (v, hw) = fits.lasts k event w q in (k, v, w, q, hw)
+        let q : last_tag log k ≡ Some event = get_or_default log.last_tags k None (Some event) l ∙ h in
+        let (v, hw) = fits.last_tags k event w q in (k, v, w, q, hw)
 
 -- a run is no longer than the bound on steps
 pub run_short : (threads : Threads) (runs : List (List Step)) (bound : ℕ) → EndsWithin threads bound →
@@ -67,33 +67,33 @@ run_short threads runs bound stops run t = go (cases_lt bound (length (steps_of 
         let z : true ≡ false = sym ended ∙ lives in cc z
 
 -- a grounded cell has the value that its tag names
-pub grounded_value : (initial : List ℕ) (runs : List (List Step)) (word : ℕ) (cell : Cell) → IsGrounded initial runs word cell → cell.value ≡ final_value initial runs word cell.tag
-grounded_value initial runs word cell (inl (i, v)) = v ∙ ap (final_value initial runs word) (sym i)
+pub grounded_value : (initial : List ℕ) (runs : List (List Step)) (word : ℕ) (cell : Cell) → IsGrounded initial runs word cell → cell.value ≡ last_value initial runs word cell.tag
+grounded_value initial runs word cell (inl (i, v)) = v ∙ ap (last_value initial runs word) (sym i)
 grounded_value initial runs word cell (inr (e, i, hw)) =
     let a : unwrap_or (wrote (step_at runs e).want (step_at runs e).found) 0 ≡ cell.value = ap (λ (o : Option ℕ). unwrap_or o 0) hw.wrote in
-    sym a ∙ ap (final_value initial runs word) (sym i)
+    sym a ∙ ap (last_value initial runs word) (sym i)
 
 -- one value for each last tag
-pub finals_from-length : (initial : List ℕ) (runs : List (List Step)) (m : ℕ) (lasts : List Tag) → length (finals_from initial runs m lasts) ≡ length lasts
-finals_from-length initial runs m [] = refl
-finals_from-length initial runs m (tag ∷ lasts) = ap suc (finals_from-length initial runs (m + 1) lasts)
+pub last_values_from-length : (initial : List ℕ) (runs : List (List Step)) (m : ℕ) (tags : List Tag) → length (last_values_from initial runs m tags) ≡ length tags
+last_values_from-length initial runs m [] = refl
+last_values_from-length initial runs m (tag ∷ tags) = ap suc (last_values_from-length initial runs (m + 1) tags)
 
 -- and at each word its own
-pub finals_from-at : (initial : List ℕ) (runs : List (List Step)) (m : ℕ) (lasts : List Tag) (word d : ℕ) (last : Tag) → word < length lasts →
-    slice_index_or (finals_from initial runs m lasts) word d ≡ final_value initial runs (m + word) (slice_index_or lasts word last)
-finals_from-at initial runs m [] word d last l = absurd (omega (arith, l))
-finals_from-at initial runs m (tag ∷ lasts) zero d last l = let z : m ≡ m + 0 = omega arith in ap (λ n. final_value initial runs n tag) z
-finals_from-at initial runs m (tag ∷ lasts) (suc word) d last l =
+pub last_values_from-at : (initial : List ℕ) (runs : List (List Step)) (m : ℕ) (tags : List Tag) (word d : ℕ) (last : Tag) → word < length tags →
+    slice_index_or (last_values_from initial runs m tags) word d ≡ last_value initial runs (m + word) (slice_index_or tags word last)
+last_values_from-at initial runs m [] word d last l = absurd (omega (arith, l))
+last_values_from-at initial runs m (tag ∷ tags) zero d last l = let z : m ≡ m + 0 = omega arith in ap (λ n. last_value initial runs n tag) z
+last_values_from-at initial runs m (tag ∷ tags) (suc word) d last l =
     let z : (m + 1) + word ≡ m + suc word = omega arith in
-    finals_from-at initial runs (m + 1) lasts word d last (omega arith) ∙ ap (λ n. final_value initial runs n (slice_index_or lasts word last)) z
+    last_values_from-at initial runs (m + 1) tags word d last (omega arith) ∙ ap (λ n. last_value initial runs n (slice_index_or tags word last)) z
 
 -- where each cell is grounded, the values are those that the tags name
-pub grounded_finals : (initial : List ℕ) (runs : List (List Step)) (memory : List Cell) (lasts : List Tag) → last_tags memory ≡ lasts → length memory ≡ length initial →
+pub grounded_last_values : (initial : List ℕ) (runs : List (List Step)) (memory : List Cell) (tags : List Tag) → last_tags memory ≡ tags → length memory ≡ length initial →
     ((word : ℕ) → word < length initial → IsGrounded initial runs word (slice_index_or memory word no_cell)) →
-    map (λ (cell : Cell). cell.value) memory ≡ finals_from initial runs 0 lasts
-grounded_finals initial runs memory lasts tags sized grounded =
-    subst (λ (x : List Tag). map (λ (cell : Cell). cell.value) memory ≡ finals_from initial runs 0 x) tags
-    (same_lists (map (λ (cell : Cell). cell.value) memory) (finals_from initial runs 0 (last_tags memory)) counted at)
+    map (λ (cell : Cell). cell.value) memory ≡ last_values_from initial runs 0 tags
+grounded_last_values initial runs memory tags same sized grounded =
+    subst (λ (x : List Tag). map (λ (cell : Cell). cell.value) memory ≡ last_values_from initial runs 0 x) same
+    (same_lists (map (λ (cell : Cell). cell.value) memory) (last_values_from initial runs 0 (last_tags memory)) counted at)
   where
     values : length (map (λ (cell : Cell). cell.value) memory) ≡ length memory
     values = length-map memory (λ (cell : Cell). cell.value)
@@ -101,11 +101,11 @@ grounded_finals initial runs memory lasts tags sized grounded =
     tagged : length (last_tags memory) ≡ length memory
     tagged = length-map memory (λ (cell : Cell). cell.tag)
 
-    counted : length (map (λ (cell : Cell). cell.value) memory) ≡ length (finals_from initial runs 0 (last_tags memory))
-    counted = values ∙ sym tagged ∙ sym (finals_from-length initial runs 0 (last_tags memory))
+    counted : length (map (λ (cell : Cell). cell.value) memory) ≡ length (last_values_from initial runs 0 (last_tags memory))
+    counted = values ∙ sym tagged ∙ sym (last_values_from-length initial runs 0 (last_tags memory))
 
     at : (k d : ℕ) → k < length (map (λ (cell : Cell). cell.value) memory) →
-        slice_index_or (map (λ (cell : Cell). cell.value) memory) k d ≡ slice_index_or (finals_from initial runs 0 (last_tags memory)) k d
+        slice_index_or (map (λ (cell : Cell). cell.value) memory) k d ≡ slice_index_or (last_values_from initial runs 0 (last_tags memory)) k d
     at k d l =
         let v = values in let t = tagged in
         let kl : k < length memory = omega arith in
@@ -114,6 +114,6 @@ grounded_finals initial runs memory lasts tags sized grounded =
         let z : k ≡ 0 + k = omega arith in
         get_or-map (λ (cell : Cell). cell.value) memory k no_cell d kl ∙
         grounded_value initial runs k (slice_index_or memory k no_cell) (grounded k ki) ∙
-        ap (final_value initial runs k) (sym (get_or-map (λ (cell : Cell). cell.tag) memory k no_cell None kl)) ∙
-        ap (λ n. final_value initial runs n (slice_index_or (last_tags memory) k None)) z ∙
-        sym (finals_from-at initial runs 0 (last_tags memory) k d None kt)
+        ap (last_value initial runs k) (sym (get_or-map (λ (cell : Cell). cell.tag) memory k no_cell None kl)) ∙
+        ap (λ n. last_value initial runs n (slice_index_or (last_tags memory) k None)) z ∙
+        sym (last_values_from-at initial runs 0 (last_tags memory) k d None kt)

@@ -28,11 +28,11 @@ sound_fits threads tallies initial log world sound has whole = record {
   };
   grounded = λ t k cell kl q. (sound.steps t k kl).grounded cell q;
   logs = sym has.logs;
-  words = ap length (sym has.lasts) ∙ length-map world.memory (λ (cell : Cell). cell.tag) ∙ sound.sized;
-  lasts = λ word event w q.
+  words = ap length (sym has.last_tags) ∙ length-map world.memory (λ (cell : Cell). cell.tag) ∙ sound.sized;
+  last_tags = λ word event w q.
       let l : word < length world.memory = let s = sound.sized in omega arith in
       let tag : last_tag log word ≡ (slice_index_or world.memory word no_cell).tag =
-      ap (λ (x : List Tag). slice_index_or x word None) (sym has.lasts) ∙ get_or-map (λ (cell : Cell). cell.tag) world.memory word no_cell None l in
+      ap (λ (x : List Tag). slice_index_or x word None) (sym has.last_tags) ∙ get_or-map (λ (cell : Cell). cell.tag) world.memory word no_cell None l in
       ((slice_index_or world.memory word no_cell).value, grounded_writes initial world.threads word (slice_index_or world.memory word no_cell) event (sound.memory word w) (sym tag ∙ q));
 }
 
@@ -66,7 +66,7 @@ module _ (threads : Threads) (tallies : Tallies) (initial : List ℕ) (log : Log
   pub fit_logged : Respects log order → (runs : List (List Step)) → Fits threads tallies initial log runs → HasLog threads tallies log (skip_play threads initial log order)
   fit_logged respects runs fits =
       let s = fit_shown threads tallies initial log runs order within stops fits respects in
-      record { logs = ap (run_logs threads tallies) s.threads ∙ sym fits.logs; lasts = s.tags }
+      record { logs = ap (run_logs threads tallies) s.threads ∙ sym fits.logs; last_tags = s.tags }
 
 -- the verdict is exact
 pub verdict_exact : (threads : Threads) (tallies : Tallies) (initial : List ℕ) (log : Log) (order : List Event) →

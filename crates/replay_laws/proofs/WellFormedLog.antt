@@ -29,7 +29,7 @@ use Rattle.replay_laws.proofs.LinearReads.{told, entry_stands, first_read, not_b
 use Rattle.replay_laws.proofs.HistoryLog.{history_fits}
 
 module _ (threads : Threads) (tallies : Tallies) (initial : List ℕ) (log : Log) (runs : List (List Step)) (all : List Event)
-    (fits : Fits threads tallies initial log runs) (linear : IsLinear (length initial) runs all log.lasts) where
+    (fits : Fits threads tallies initial log runs) (linear : IsLinear (length initial) runs all log.last_tags) where
   -- a step that wrote is one that its thread took
   written_taken : (e : Event) (word v : ℕ) → HasWritten runs e word v → IsTaken log e
   written_taken e word v hw =
@@ -46,13 +46,13 @@ module _ (threads : Threads) (tallies : Tallies) (initial : List ℕ) (log : Log
       go None q = tt
       go (Some e) q = let (v, hw) = (told threads tallies initial log runs all fits linear).sources t a e c q in written_taken e a.word v hw
 
-  last_taken : (word : ℕ) → word < length log.lasts → IsTagOf log (last_tag log word)
+  last_taken : (word : ℕ) → word < length log.last_tags → IsTagOf log (last_tag log word)
   last_taken word l = go (last_tag log word) refl
     where
       go : (tag : Tag) → last_tag log word ≡ tag → IsTagOf log tag
       go None q = tt
       go (Some e) q =
-          let (x, v, w, is, hw) = (told threads tallies initial log runs all fits linear).lasts e (word, l, get_or_default log.lasts word (Some e) None l ∙ q) in
+          let (x, v, w, is, hw) = (told threads tallies initial log runs all fits linear).last_tags e (word, l, get_or_default log.last_tags word (Some e) None l ∙ q) in
           written_taken e x v hw
 
   -- the entries of one word in one thread do not overlap
@@ -141,9 +141,9 @@ module _ (threads : Threads) (tallies : Tallies) (initial : List ℕ) (log : Log
 
     pub linear_formed : (count : ℕ) → length log.threads ≡ count → IsInRange count (length initial) log.limits → IsWellFormed log
     linear_formed count cq range = record {
-      range = subst (λ (n : ℕ). IsInRange n (length log.lasts) log.limits) (sym cq) (subst (λ (n : ℕ). IsInRange count n log.limits) (sym fits.words) range);
+      range = subst (λ (n : ℕ). IsInRange n (length log.last_tags) log.limits) (sym cq) (subst (λ (n : ℕ). IsInRange count n log.limits) (sym fits.words) range);
       threads = thread_formed;
-      lasts = last_taken;
+      last_tags = last_taken;
     }
 
 -- the log of a whole history is well formed

@@ -28,15 +28,15 @@ use Rattle.replay_laws.proofs.HistoryLog.{history_fits, history_respects, histor
 use Rattle.replay_laws.proofs.WellFormedLog.{history_formed}
 
 -- what is computed gives the rest by the laws
-pub shown : (scripts : List Script) (initial history : List ℕ) (entries : List (List Entry)) (lasts : List Tag) (order : List Event) (cells : List Cell) →
+pub shown : (scripts : List Script) (initial history : List ℕ) (entries : List (List Entry)) (last_tags : List Tag) (order : List Event) (cells : List Cell) →
     IsInRange (length {A = Script} scripts) (length initial) Examples.example_limits →
     IsWholeHistory (Examples.example_threads scripts initial) initial (length {A = Script} scripts) history →
     map (λ (thread : ThreadLog). thread.entries) (Examples.example_log scripts initial history).threads ≡ entries →
-    (Examples.example_log scripts initial history).lasts ≡ lasts →
+    (Examples.example_log scripts initial history).last_tags ≡ last_tags →
     history_order (Examples.example_threads scripts initial) initial (length {A = Script} scripts) history (Examples.example_log scripts initial history) ≡ order →
     (Examples.example_end scripts initial history).memory ≡ cells →
-    Examples.Shows scripts initial history entries lasts order cells
-shown scripts initial history entries lasts order cells range whole es ls os cs =
+    Examples.Shows scripts initial history entries last_tags order cells
+shown scripts initial history entries last_tags order cells range whole es ls os cs =
     let within = script_within scripts (length initial) Examples.example_limits in
     let only = script_only scripts (length initial) Examples.example_limits in
     let ends = script_ends scripts (length initial) Examples.example_limits in
@@ -49,7 +49,7 @@ shown scripts initial history entries lasts order cells range whole es ls os cs 
     record {
       whole = whole;
       entries = es;
-      lasts = ls;
+      last_tags = ls;
       formed = history_formed threads one_each [] Examples.example_limits initial count history within only ends keeps range whole;
       fits = history_fits threads one_each [] Examples.example_limits initial count history within only whole;
       respects = respects;
@@ -238,7 +238,7 @@ forced_between = (
 )
   where
     has : HasLog Examples.forced_between_threads one_each Examples.forced_between_log Examples.forced_between_end
-    has = record { logs = refl; lasts = refl }
+    has = record { logs = refl; last_tags = refl }
 
 -- one entry is allowed
 pub one_entry : Examples.OneEntry

@@ -1,5 +1,5 @@
 -- Worked examples: small programs as scripts, one history each, and what comes of it.
-use Rattle.std.specs.Prelude.{◌≡◌, ℕ, zero, suc, ◌+◌, cond, eqb, Some, None, List, [], ◌∷◌, length, map}
+use Rattle.std.specs.Prelude.{◌≡◌, ℕ, zero, suc, ◌+◌, ◌==◌, if◌then◌else◌, Some, None, List, [], ◌∷◌, length, map}
 use Rattle.light_base.specs.declared.tag.Event.{Event}
 use Rattle.light_base.specs.declared.tag.Tag.{Tag}
 use Rattle.light_base.specs.declared.tag.Cell.{Cell}
@@ -50,10 +50,11 @@ cell value tag = record { value = value; tag = tag }
 
 -- the history is whole; its log has these entries and last tags, and is well formed; its runs fit it; this order of its events respects it;
 -- and the skip play by this order ends as the history did, in these cells
-pub record Shows (scripts : List Script) (initial history : List ℕ) (logs : List (List Entry)) (tags : List Tag) (order : List Event) (memory : List Cell) : Type 0 where
+pub record Shows (scripts : List Script) (initial history : List ℕ) (logs : List (List Entry)) (tags : List Tag) (order : List Event)
+    (memory : List Cell) : Type 0 where
   pub whole : IsWholeHistory (example_threads scripts initial) initial (length {A = Script} scripts) history
   pub entries : map (λ (thread : ThreadLog). thread.entries) (example_log scripts initial history).threads ≡ logs
-  pub lasts : (example_log scripts initial history).lasts ≡ tags
+  pub last_tags : (example_log scripts initial history).last_tags ≡ tags
   pub formed : IsWellFormed (example_log scripts initial history)
   pub fits : Fits (example_threads scripts initial) one_each initial (example_log scripts initial history) (example_end scripts initial history).threads
   pub respects : Respects (example_log scripts initial history) order
@@ -199,7 +200,7 @@ BlindStoresNoEvent = IsRefused (reads_once ∷ writes 5 ∷ writes 6 ∷ []) (0 
 -- reads word 0, and where it finds 5 writes 8 to it, if nobody has written since
 abbrev pub compares : Script
 compares [] = Load 0
-compares (c ∷ []) = cond (eqb c.value 5) (Cond 0 c.tag 8) (Ended Halted)
+compares (c ∷ []) = if c.value == 5 then Cond 0 c.tag 8 else Ended Halted
 compares (c ∷ d ∷ rest) = Ended Halted
 
 -- Same value, other writer: the second thread writes the value that stood there; the first one's exchange fails all the same
@@ -233,7 +234,7 @@ forced_between_log = record {
   limits = example_limits;
   threads = record { entries = []; steps = 3; instr = 3; end = Halted; taken = [] } ∷
       record { entries = entry 1 (Some (at 0 3)) 1 1 ∷ entry 0 (Some (at 0 1)) 2 2 ∷ []; steps = 3; instr = 3; end = Halted; taken = [] } ∷ [];
-  lasts = Some (at 1 3) ∷ Some (at 0 3) ∷ [];
+  last_tags = Some (at 1 3) ∷ Some (at 0 3) ∷ [];
 }
 
 -- the threads of this example
@@ -257,7 +258,7 @@ no_fit_log = record {
   limits = example_limits;
   threads = record { entries = entry 0 (Some (at 1 1)) 1 1 ∷ []; steps = 1; instr = 1; end = Halted; taken = [] } ∷
       record { entries = entry 0 None 1 1 ∷ []; steps = 1; instr = 1; end = Halted; taken = [] } ∷ [];
-  lasts = Some (at 1 1) ∷ [];
+  last_tags = Some (at 1 1) ∷ [];
 }
 
 -- an order of its events

@@ -22,13 +22,15 @@ RunsFitTheirLog = (threads : Threads) (tallies : Tallies) (digest : List ℕ) (l
 abbrev pub HistoryShowsItsRuns : Type 0
 HistoryShowsItsRuns = (threads : Threads) (tallies : Tallies) (digest : List ℕ) (limits : Limits) (initial : List ℕ) (count : ℕ) (history : List ℕ) →
     StaysWithin threads (length initial) → HasOnly threads count → IsWholeHistory threads initial count history →
-    ShowsRuns initial (history_log threads tallies digest limits initial count history) (played threads initial count history).threads (played threads initial count history)
+    ShowsRuns initial (history_log threads tallies digest limits initial count history) (played threads initial count history).threads
+    (played threads initial count history)
 
 -- the events of its log, in the order of the history, respect it
 abbrev pub HistoryRespectsItsLog : Type 0
 HistoryRespectsItsLog = (threads : Threads) (tallies : Tallies) (digest : List ℕ) (limits : Limits) (initial : List ℕ) (count : ℕ) (history : List ℕ) →
     StaysWithin threads (length initial) → HasOnly threads count → IsWholeHistory threads initial count history →
-    Respects (history_log threads tallies digest limits initial count history) (history_order threads initial count history (history_log threads tallies digest limits initial count history))
+    Respects (history_log threads tallies digest limits initial count history)
+    (history_order threads initial count history (history_log threads tallies digest limits initial count history))
 
 -- its log is well formed, where the threads keep to the limits
 abbrev pub HistoryLogIsWellFormed : Type 0
@@ -39,7 +41,8 @@ HistoryLogIsWellFormed = (threads : Threads) (tallies : Tallies) (digest : List 
 
 -- the skip play of a history's log, by any order that respects it, ends in the very state in which the history ended
 abbrev pub ReplayEndsAsTheHistory : Type 0
-ReplayEndsAsTheHistory = (threads : Threads) (tallies : Tallies) (digest : List ℕ) (limits : Limits) (initial : List ℕ) (count : ℕ) (history : List ℕ) (order : List Event) →
+ReplayEndsAsTheHistory =
+    (threads : Threads) (tallies : Tallies) (digest : List ℕ) (limits : Limits) (initial : List ℕ) (count : ℕ) (history : List ℕ) (order : List Event) →
     StaysWithin threads (length initial) → HasOnly threads count → EndsWithin threads limits.steps → IsWholeHistory threads initial count history →
     Respects (history_log threads tallies digest limits initial count history) order →
     skip_play threads initial (history_log threads tallies digest limits initial count history) order ≡ played threads initial count history

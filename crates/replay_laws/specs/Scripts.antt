@@ -1,5 +1,5 @@
 -- A small machine for examples: what a thread wants next follows from the cells that its steps found.
-use Rattle.std.specs.Prelude.{ℕ, ◌&&◌, ◌≤◌, cond, nat_le, List, [], length, map, slice_index_or, unwrap_or}
+use Rattle.std.specs.Prelude.{ℕ, ◌&&◌, ◌≤◌, if◌then◌else◌, nat_le, List, [], length, map, slice_index_or, unwrap_or}
 use Rattle.replay_model.specs.Steps.{Cell, Step, word_of, has_ended, reads, no_cell}
 use Rattle.replay_model.specs.declared.Want.{Want}
 use Rattle.replay_model.specs.declared.Want.TheVariants.{Ended}
@@ -25,10 +25,11 @@ cells_found steps = map (λ (step : Step). unwrap_or step.found no_cell) steps
 -- the want, or the end that the limits and the number of words make of it
 abbrev pub guarded : ℕ → Limits → List Step → Want → Want
 guarded size limits steps want =
-    cond (has_ended want) (Ended Halted)
-    (cond (nat_le size (word_of want)) (Ended (BadAddress (word_of want)))
-    (cond (nat_le limits.steps (length steps)) (Ended StepsSpent)
-    (cond (reads want && is_full limits.entries steps) (Ended EntriesFull) want)))
+    if has_ended want then Ended Halted
+    else if nat_le size (word_of want) then Ended (BadAddress (word_of want))
+    else if nat_le limits.steps (length steps) then Ended StepsSpent
+    else if reads want && is_full limits.entries steps then Ended EntriesFull
+    else want
 
 -- threads that run these scripts, on so many words
 abbrev pub script_threads : List Script → ℕ → Limits → Threads

@@ -1,5 +1,5 @@
 -- The events of a log: the steps that an order of it places.
-use Rattle.std.specs.Prelude.{◌≡◌, ℕ, Bool, ◌||◌, eqb, Some, List, [], ◌∷◌, Contains, ◌⊎◌}
+use Rattle.std.specs.Prelude.{◌≡◌, ℕ, Bool, ◌||◌, ◌==◌, Some, List, [], ◌∷◌, Contains, ◌⊎◌}
 use Rattle.std.specs.List.{list_any}
 use Rattle.replay_model.specs.Steps.{Event, Tag, same_tag}
 use Rattle.replay_model.specs.Threads.{Threads}
@@ -9,7 +9,7 @@ use Rattle.replay_model.specs.Logs.{ThreadLog, Log, thread_of, HasEntry, first_e
 
 -- the step is a write that the log names: a source or a last tag
 abbrev pub IsKept : Log → Event → Type 0
-IsKept log event = ((t : ℕ) × (entry : Entry) × HasEntry log t entry × (entry.source ≡ Some event)) ⊎ Contains log.lasts (Some event)
+IsKept log event = ((t : ℕ) × (entry : Entry) × HasEntry log t entry × (entry.source ≡ Some event)) ⊎ Contains log.last_tags (Some event)
 
 -- the step is the first or the last of an entry
 abbrev pub IsBound : Log → Event → Type 0
@@ -25,11 +25,11 @@ names_source tag thread = list_any (λ (entry : Entry). same_tag entry.source ta
 
 -- whether the step is a source or a last tag
 abbrev pub keeps : Log → Event → Bool
-keeps log event = list_any (names_source (Some event)) log.threads || list_any (same_tag (Some event)) log.lasts
+keeps log event = list_any (names_source (Some event)) log.threads || list_any (same_tag (Some event)) log.last_tags
 
 -- whether the step is the first or the last of an entry of its thread
 abbrev pub is_bound : Log → Event → Bool
-is_bound log event = list_any (λ (entry : Entry). eqb event.step entry.first || eqb event.step entry.last) (thread_of log event.thread).entries
+is_bound log event = list_any (λ (entry : Entry). (event.step == entry.first) || (event.step == entry.last)) (thread_of log event.thread).entries
 
 -- whether the step is an event of the log
 abbrev pub is_event : Log → Event → Bool

@@ -1,5 +1,5 @@
 -- Histories: the threads take their memory steps one after another, on one memory (sequential consistency).
-use Rattle.std.specs.Prelude.{◌≡◌, ℕ, zero, suc, ◌+◌, ◌<◌, Bool, true, false, cond, List, [], ◌∷◌, ◌++◌, length, slice_index_or, slice_set, replicate}
+use Rattle.std.specs.Prelude.{◌≡◌, ℕ, zero, suc, ◌+◌, ◌<◌, Bool, true, false, if◌then◌else◌, List, [], ◌∷◌, ◌++◌, length, slice_index_or, slice_set, replicate}
 use Rattle.std.specs.List.{range_with_len}
 use Rattle.replay_model.specs.Steps.{Event, Cell, Want, Step, word_of, wrote, found_in, put, has_ended, initial_cells}
 use Rattle.replay_model.specs.Threads.{Threads}
@@ -26,7 +26,7 @@ next_event t world = record { thread = t; step = length (steps_of world.threads 
 -- thread t takes the step that it wants; its write is left out where `keep` says no
 unfoldable pub take_step : (Event → Bool) → ℕ → Want → World → World
 take_step keep t want world = record {
-  memory = cond (keep (next_event t world)) (put world.memory (word_of want) (next_event t world) (wrote want (found_in world.memory want))) world.memory;
+  memory = if keep (next_event t world) then put world.memory (word_of want) (next_event t world) (wrote want (found_in world.memory want)) else world.memory;
   threads = slice_set world.threads t (steps_of world.threads t ++ step_in world.memory want ∷ []);
 }
 
@@ -36,7 +36,7 @@ wanted threads t world = threads t (steps_of world.threads t)
 
 -- a turn of thread t: it takes a step, or none where it has ended
 unfoldable pub move : Threads → (Event → Bool) → ℕ → World → World
-move threads keep t world = cond (has_ended (wanted threads t world)) world (take_step keep t (wanted threads t world) world)
+move threads keep t world = if has_ended (wanted threads t world) then world else take_step keep t (wanted threads t world) world
 
 abbrev pub keep_all : Event → Bool
 keep_all event = true
@@ -59,7 +59,7 @@ IsWhole threads world = (t : ℕ) → t < length world.threads → has_ended (wa
 unfoldable pub history_of : Threads → List ℕ → World → List ℕ
 history_of threads [] world = []
 history_of threads (t ∷ turns) world =
-    cond (has_ended (wanted threads t world)) [] (t ∷ []) ++ history_of threads turns (move threads keep_all t world)
+    (if has_ended (wanted threads t world) then [] else t ∷ []) ++ history_of threads turns (move threads keep_all t world)
 
 -- so many rounds, in each of which the threads 0, 1, 2 and so on have one turn
 unfoldable pub round_turns : ℕ → ℕ → List ℕ

@@ -10,7 +10,8 @@ pub record Limits : Type 0 where
   pub instr : ℕ
   pub entries : ℕ
 
--- what is logged of one thread: its entries by rising first, and its tail: how many memory steps it took, how many instructions it finished, how it ended, and the input numbers that it took
+-- what is logged of one thread: its entries by rising first, and its tail: how many memory steps it took, how many instructions it finished,
+-- how it ended, and the input numbers that it took
 pub record ThreadLog : Type 0 where
   pub entries : List Entry
   pub steps : ℕ
@@ -23,7 +24,7 @@ pub record Log : Type 0 where
   pub digest : List ℕ
   pub limits : Limits
   pub threads : List ThreadLog
-  pub lasts : List Tag
+  pub last_tags : List Tag
 
 -- stands where a log has no such thread
 abbrev pub no_thread : ThreadLog
@@ -39,7 +40,7 @@ HasEntry log t entry = Contains (thread_of log t).entries entry
 
 -- the last tag of a word
 abbrev pub last_tag : Log → ℕ → Tag
-last_tag log word = slice_index_or log.lasts word None
+last_tag log word = slice_index_or log.last_tags word None
 
 -- the first and the last step that an entry of thread t stands for
 abbrev pub first_event : ℕ → Entry → Event

@@ -1,5 +1,5 @@
 -- Orders that respect a log: sequences of its events in which each read can see what it saw.
-use Rattle.std.specs.Prelude.{◌≡◌, ◌≢◌, ℕ, suc, ◌<◌, ◌≤◌, cond, Some, None, List, [], ◌∷◌, length, slice_index_or, Contains, ◌⊎◌}
+use Rattle.std.specs.Prelude.{◌≡◌, ◌≢◌, ℕ, suc, ◌<◌, ◌≤◌, if◌then◌else◌, Some, None, List, [], ◌∷◌, length, slice_index_or, Contains, ◌⊎◌}
 use Rattle.replay_model.specs.Steps.{Event, same_event}
 use Rattle.replay_model.specs.ThreadLogs.{Entry}
 use Rattle.replay_model.specs.Logs.{Log, HasEntry, last_tag, first_event, last_event}
@@ -8,7 +8,7 @@ use Rattle.replay_model.specs.Events.{IsEvent}
 -- the first place of the event in the order; the order's length where it has none
 abbrev pub place : List Event → Event → ℕ
 place [] event = 0
-place (e ∷ order) event = cond (same_event e event) 0 (suc (place order event))
+place (e ∷ order) event = if same_event e event then 0 else suc (place order event)
 
 -- the order has each event of the log once and nothing else; events of one thread stand by rising number; a source stands before the first read of it;
 -- of two writes to a word, the reads of one are over when the other is made; and when a word's last tag is made, the reads of its other writes are over.

@@ -49,9 +49,14 @@ last_tags memory = map (λ (cell : Cell). cell.tag) memory
 
 -- the log of the state at the end of a play, with this digest and these limits
 abbrev pub log_of : Threads → Tallies → List ℕ → Limits → World → Log
-log_of threads tallies digest limits world = record { digest = digest; limits = limits; threads = run_logs threads tallies world.threads; lasts = last_tags world.memory }
+log_of threads tallies digest limits world = record {
+  digest = digest;
+  limits = limits;
+  threads = run_logs threads tallies world.threads;
+  last_tags = last_tags world.memory;
+}
 
 -- the state's entries, tails and last tags are those of the log
 pub record HasLog (threads : Threads) (tallies : Tallies) (log : Log) (world : World) : Type 0 where
   pub logs : run_logs threads tallies world.threads ≡ log.threads
-  pub lasts : last_tags world.memory ≡ log.lasts
+  pub last_tags : last_tags world.memory ≡ log.last_tags

@@ -6,7 +6,7 @@ use Rattle.replay_model.specs.Histories.{World, steps_of, opening, move}
 use Rattle.replay_model.specs.Logs.{Log}
 use Rattle.replay_model.specs.RunLogs.{last_tags}
 use Rattle.replay_model.specs.Events.{keeps}
-use Rattle.replay_model.specs.Fitting.{finals}
+use Rattle.replay_model.specs.Fitting.{last_values}
 
 -- so many steps of thread t, or fewer where it ends
 unfoldable pub moves : Threads → (Event → Bool) → ℕ → ℕ → World → World
@@ -38,5 +38,5 @@ skip_play threads initial log order = skip threads log order (opening initial (l
 -- each thread took the steps of its run, and each word has its last tag and the value that this tag names
 pub record ShowsRuns (initial : List ℕ) (log : Log) (runs : List (List Step)) (world : World) : Type 0 where
   pub threads : world.threads ≡ runs
-  pub tags : last_tags world.memory ≡ log.lasts
-  pub values : map (λ (cell : Cell). cell.value) world.memory ≡ finals initial log runs
+  pub tags : last_tags world.memory ≡ log.last_tags
+  pub values : map (λ (cell : Cell). cell.value) world.memory ≡ last_values initial log runs

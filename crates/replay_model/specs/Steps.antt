@@ -1,5 +1,5 @@
 -- One memory step: what is wanted of the memory, what is found there, and what is written.
-use Rattle.std.specs.Prelude.{ℕ, Bool, true, false, cond, ◌&&◌, eqb, Option, Some, None, List, [], ◌∷◌, ◌+◌, map, slice_index_or, slice_set}
+use Rattle.std.specs.Prelude.{ℕ, Bool, true, false, ◌&&◌, ◌==◌, if◌then◌else◌, Option, Some, None, List, [], ◌∷◌, ◌+◌, map, slice_index_or, slice_set}
 pub use Rattle.light_base.specs.declared.tag.Event.{Event}
 pub use Rattle.light_base.specs.declared.tag.Tag.{Tag}
 pub use Rattle.light_base.specs.declared.tag.Cell.{Cell}
@@ -14,7 +14,7 @@ pub record Step : Type 0 where
   pub found : Option Cell
 
 abbrev pub same_event : Event → Event → Bool
-same_event a b = eqb a.thread b.thread && eqb a.step b.step
+same_event a b = (a.thread == b.thread) && (a.step == b.step)
 
 abbrev pub same_tag : Tag → Tag → Bool
 same_tag None None = true
@@ -47,7 +47,7 @@ reads (Ended end) = false
 -- a conditional write is made exactly where the cell found has the tag that was seen before
 abbrev pub value_if_seen : Tag → ℕ → Option Cell → Option ℕ
 value_if_seen seen value None = None
-value_if_seen seen value (Some cell) = cond (same_tag cell.tag seen) (Some value) None
+value_if_seen seen value (Some cell) = if same_tag cell.tag seen then Some value else None
 
 -- the value that the step wrote, if it wrote
 abbrev pub wrote : Want → Option Cell → Option ℕ
@@ -67,7 +67,7 @@ initial_cells initial = map (λ (value : ℕ). record { value = value; tag = Non
 
 -- the cell that a reading step finds: the one that stands in its word
 abbrev pub found_in : List Cell → Want → Option Cell
-found_in memory want = cond (reads want) (Some (slice_index_or memory (word_of want) no_cell)) None
+found_in memory want = if reads want then Some (slice_index_or memory (word_of want) no_cell) else None
 
 -- the memory after a write by this step, if there is one
 abbrev pub put : List Cell → ℕ → Event → Option ℕ → List Cell

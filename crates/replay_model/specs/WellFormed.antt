@@ -1,5 +1,7 @@
 -- Well-formed logs: what can be told of a log alone, without its program.
 use Rattle.std.specs.Prelude.{◌≡◌, ◌≢◌, ℕ, ◌<◌, ◌≤◌, ◌^◌, Some, None, length, slice_index_or, Contains}
+use Rattle.light_base.specs.Tags.{step_end}
+use Rattle.replay_model.specs.Bounds.{most_entries, most_inputs}
 use Rattle.replay_model.specs.Steps.{Event, Tag, End}
 use Rattle.replay_model.specs.declared.End.TheVariants.{Halted, InstrSpent, BadAddress, StepsSpent, EntriesFull, OutputFull, InputEmpty}
 use Rattle.replay_model.specs.ThreadLogs.{Entry}
@@ -11,9 +13,9 @@ pub record IsInRange (count size : ℕ) (limits : Limits) : Type 0 where
   pub threads : count ≤ 15
   pub some_word : 1 ≤ size
   pub words : size ≤ 4096
-  pub steps : limits.steps < 2 ^ 28
+  pub steps : limits.steps < step_end
   pub instr : limits.instr ≤ 2 ^ 30
-  pub entries : limits.entries ≤ 16384
+  pub entries : limits.entries ≤ most_entries
 
 -- a bad address is one that no word has
 abbrev pub IsPossibleEnd : ℕ → End → Type 0
@@ -42,15 +44,15 @@ pub record IsEntryOf (log : Log) (thread : ThreadLog) (entry : Entry) : Type 0 w
   pub between : entry.first ≤ entry.last
   pub high : entry.last ≤ thread.steps
   pub source : IsTagOf log entry.source
-  pub word : entry.word < length log.lasts
+  pub word : entry.word < length log.last_tags
 
 -- entries stand by rising first; those of one word name different sources, and no source comes back after another was read
 pub record IsThreadOf (log : Log) (thread : ThreadLog) : Type 0 where
   pub steps : thread.steps ≤ log.limits.steps
   pub instr : thread.instr ≤ log.limits.instr
   pub entries : length thread.entries ≤ log.limits.entries
-  pub end : IsPossibleEnd (length log.lasts) thread.end
-  pub taken : length thread.taken ≤ 65536
+  pub end : IsPossibleEnd (length log.last_tags) thread.end
+  pub taken : length thread.taken ≤ most_inputs
   pub each : (entry : Entry) → Contains thread.entries entry → IsEntryOf log thread entry
   pub rising : (i j : ℕ) (d : Entry) → i < j → j < length thread.entries →
       (slice_index_or thread.entries i d).first < (slice_index_or thread.entries j d).first
@@ -63,6 +65,6 @@ pub record IsThreadOf (log : Log) (thread : ThreadLog) : Type 0 where
 
 -- a well-formed log
 pub record IsWellFormed (log : Log) : Type 0 where
-  pub range : IsInRange (length log.threads) (length log.lasts) log.limits
+  pub range : IsInRange (length log.threads) (length log.last_tags) log.limits
   pub threads : (t : ℕ) → t < length log.threads → IsThreadOf log (thread_of log t)
-  pub lasts : (word : ℕ) → word < length log.lasts → IsTagOf log (last_tag log word)
+  pub last_tags : (word : ℕ) → word < length log.last_tags → IsTagOf log (last_tag log word)

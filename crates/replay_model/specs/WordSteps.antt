@@ -1,5 +1,5 @@
 -- The memory steps in the order in which the words saw them.
-use Rattle.std.specs.Prelude.{◌≡◌, ℕ, ◌+◌, cond, eqb, Option, List, [], ◌∷◌, ◌++◌, length}
+use Rattle.std.specs.Prelude.{◌≡◌, ℕ, ◌+◌, ◌==◌, if◌then◌else◌, Option, List, [], ◌∷◌, ◌++◌, length}
 use Rattle.replay_model.specs.Steps.{Event, Cell, Want, Step, word_of, wrote, found_in, put}
 
 -- a memory step as the words saw it: step `number` of a thread
@@ -15,7 +15,7 @@ event_of e = record { thread = e.thread; step = e.number }
 -- the steps of one thread
 abbrev pub part : ℕ → List WordStep → List Step
 part t [] = []
-part t (e ∷ list) = cond (eqb e.thread t) (record { want = e.want; found = e.found } ∷ []) [] ++ part t list
+part t (e ∷ list) = (if e.thread == t then record { want = e.want; found = e.found } ∷ [] else []) ++ part t list
 
 -- the list leads from the memory to the last one; `earlier` stood before it. Each step has the next number of its thread, and found what stood in its word
 abbrev pub Folds : List WordStep → List Cell → List WordStep → List Cell → Type 0

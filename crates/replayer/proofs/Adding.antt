@@ -79,14 +79,14 @@ same_tag-sym (Some a) None = refl
 same_tag-sym (Some a) (Some b) = same_event-sym a b
 
 -- the sources and the last tags are all that the log names
-pub named_all : (log : Log) (t : ℕ) (threads : List ThreadLog) (tags : List Tag) (none mid new : List ℕ) → none ≡ [] → threads ≡ log.threads → tags ≡ log.lasts →
+pub named_all : (log : Log) (t : ℕ) (threads : List ThreadLog) (tags : List Tag) (none mid new : List ℕ) → none ≡ [] → threads ≡ log.threads → tags ≡ log.last_tags →
     AreAdded (λ (m : ℕ). list_any (names_source (Some (event_at t m))) threads) none mid → AreAdded (is_tagged t tags) mid new → AreNamed log t new
 named_all log t threads tags none mid new n th ta first second = record {
   each = λ m.
       second.each m ∙
       ap (λ (b : Bool). b || is_tagged t tags m) (first.each m ∙ ap (λ (l : List ℕ). has_step m l || list_any (names_source (Some (event_at t m))) threads) n ∙ ap (list_any (names_source (Some (event_at t m)))) th) ∙
       ap (λ (b : Bool). list_any (names_source (Some (event_at t m))) log.threads || b)
-      (ap (λ (l : List Tag). is_tagged t l m) ta ∙ any_same (λ (tag : Tag). same_tag tag (Some (event_at t m))) (same_tag (Some (event_at t m))) (λ tag. same_tag-sym tag (Some (event_at t m))) log.lasts);
+      (ap (λ (l : List Tag). is_tagged t l m) ta ∙ any_same (λ (tag : Tag). same_tag tag (Some (event_at t m))) (same_tag (Some (event_at t m))) (λ tag. same_tag-sym tag (Some (event_at t m))) log.last_tags);
   low = second.low (first.low (subst (All (λ (m : ℕ). 1 ≤ m)) (sym n) (All-nil (λ (m : ℕ). 1 ≤ m))));
 }
 

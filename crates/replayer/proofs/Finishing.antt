@@ -1,11 +1,8 @@
 -- What a replay answers once each thread has run to its end.
-use Rattle.std.proofs.Common.{◌≡◌, ℕ, suc, ◌+◌, ◌<◌, true, List, [], ◌∷◌, ◌++◌, length, take, drop, map, refl, sym, ◌∙◌, ap, subst, arith}
-use Rattle.std.specs.Prelude.{Option, Some, None, IsSome, All, option_and_then, slice_index_or}
+use Rattle.std.proofs.Common.{◌≡◌, ℕ, ◌+◌, ◌<◌, true, List, [], ◌∷◌, ◌++◌, length, take, drop, map, sym, ◌∙◌, ap, subst, arith}
+use Rattle.std.specs.Prelude.{All, option_and_then, slice_index_or}
 use Rattle.std.specs.List.{range_with_len}
 use Rattle.std.proofs.lemmas.List.{get_or-map, length-map, length-take-le, take_all, same_lists, append_cancel_left}
-use Rattle.replay_model.specs.declared.End.TheVariants as end
-use Rattle.replay_model.specs.declared.Want.{Want}
-use Rattle.replay_model.specs.declared.Want.TheVariants as want
 use Rattle.std.proofs.Math.ListN as lists
 use Rattle.replay_model.specs.Steps.{Tag, Cell, has_ended}
 use Rattle.replay_model.specs.Histories.{World, steps_of, wanted}
@@ -17,16 +14,17 @@ use Rattle.replay_model.proofs.RunLogs.{run_logs_from-length, run_logs-at}
 use Rattle.replay_laws.proofs.Endings.{finish_ends}
 use Rattle.machine.specs.Programs.{ProgramValue}
 use Rattle.machine.specs.Inputs.{inputs_of}
-use Rattle.machine.specs.Cores.{State, want_or, end_of, end_or_halted, report_of}
+use Rattle.machine.specs.Cores.{State, end_of, end_or_halted, report_of}
 use Rattle.machine.specs.Laws.{taken_in}
 use Rattle.machine.specs.Runs.{state_after, reports_of}
-use Rattle.machine.proofs.Runs.{ends_within, state_after-stands}
-use Rattle.history.proofs.Steps.{written_back}
-use Rattle.dep_log.specs.DepLogs.{DepLogState}
+use Rattle.machine.proofs.Runs.{ends_within}
 use Rattle.replayer.specs.declared.difference.Difference.{Difference}
 use Rattle.replayer.specs.declared.replay.Replayed.{Replayed}
 use Rattle.replayer.specs.declared.replay.Replayed.TheVariants.{Same, Differs}
-use Rattle.replayer.specs.declared.seat.Seat.{Seat}
+use Rattle.running_thread.specs.declared.thread.RunningThread.{RunningThread}
+use Rattle.running_thread.proofs.Ends.{same-end, at-end}
+use Rattle.running_thread.proofs.Lists.{map-range, written_back}
+use Rattle.replayer.specs.declared.words.ReplayWords.{ReplayWords}
 use Rattle.replayer.specs.Differences.{Part, Item, part_of, items, items_of, DifferFirst}
 use Rattle.replayer.specs.Replays.{Replaying, threads_by, world_of, ended}
 use Rattle.replayer.specs.Verdicts.{tallies_by, ShowsLog, log_found, IsVerdict}
@@ -34,24 +32,6 @@ use Rattle.replayer.specs.Seats.{IsShown, IsReplaying, HasEnded, AreSettled, IsA
 use Rattle.replayer.proofs.TakenNumbers.{taken_within}
 
 -- ---- one thread
-
--- something is pending that is an end
-some-end : (o : Option Want) → IsSome o → has_ended (want_or (want.Ended end.Halted) o) ≡ true → IsSome (option_and_then end_of o)
-some-end None s h = s
-some-end (Some (want.Ended e)) s h = refl
-some-end (Some (want.Load word)) s h = absurd (cc h)
-some-end (Some (want.Store word value)) s h = absurd (cc h)
-some-end (Some (want.Swap word value)) s h = absurd (cc h)
-some-end (Some (want.Cond word seen value)) s h = absurd (cc h)
-
--- the end that is pending
-same-end : (o : Option Want) → run_logs.end_of (want_or (want.Ended end.Halted) o) ≡ end_or_halted (option_and_then end_of o)
-same-end None = refl
-same-end (Some (want.Ended e)) = refl
-same-end (Some (want.Load word)) = refl
-same-end (Some (want.Store word value)) = refl
-same-end (Some (want.Swap word value)) = refl
-same-end (Some (want.Cond word seen value)) = refl
 
 -- two parts with the same fields
 same-part : (a b : Part) → a.entries ≡ b.entries → a.steps ≡ b.steps → a.instr ≡ b.instr → a.end ≡ b.end → a.taken ≡ b.taken → a ≡ b
@@ -75,18 +55,9 @@ some-of : {X : Type 0} (xs : List X) → 0 < length xs → X
 some-of [] l = absurd (omega arith)
 some-of (x ∷ xs) l = x
 
--- what is told of each place of a list is told of the numbers of its places
-map-range : {X Y : Type 0} (f : X → Y) (g : ℕ → Y) (xs : List X) (a : ℕ) → ((k : ℕ) (d : X) → k < length xs → f (slice_index_or xs k d) ≡ g (a + k)) → map f xs ≡ map g (range_with_len a (length xs))
-map-range f g [] a h = refl
-map-range {X} {Y} f g (x ∷ xs) a h =
-    let z : a + 0 ≡ a = omega arith in
-    let here : f x ≡ g a = h 0 x (omega arith) ∙ ap g z in
-    ap (λ (y : Y). y ∷ map f xs) here ∙
-    ap (λ (l : List Y). g a ∷ l) (map-range f g xs (a + 1) (λ k d l. h (suc k) d (omega arith) ∙ ap g (let e : a + suc k ≡ (a + 1) + k = omega arith in e)))
-
 -- ---- all threads
 
-module _ (p : ProgramValue) (log : Log) (world : World) (cells : List Cell) (seats : List Seat) (shown : IsShown p log world cells seats) (settled : AreSettled p log world seats)
+module _ (p : ProgramValue) (log : Log) (world : World) (shared : ReplayWords) (seats : List RunningThread) (shown : IsShown p log world shared seats) (settled : AreSettled p log world seats)
     (counted : length p.threads ≡ length log.threads) where
   abbrev state : ℕ → State
   state t = state_after p log.limits (taken_in log) t (steps_of world.threads t)
@@ -95,29 +66,22 @@ module _ (p : ProgramValue) (log : Log) (world : World) (cells : List Cell) (sea
   logs = run_logs.run_logs (threads_by p log) (tallies_by p log) world.threads
 
   logs-length : length logs ≡ length seats
-  logs-length = run_logs_from-length (threads_by p log) (tallies_by p log) 0 world.threads ∙ shown.counted ∙ sym shown.seated
+  logs-length = run_logs_from-length (threads_by p log) (tallies_by p log) 0 world.threads ∙ shown.are.counted ∙ sym shown.seated
 
   log-at : (t : ℕ) (d : ThreadLog) → t < length seats → slice_index_or logs t d ≡ run_log (threads_by p log) (tallies_by p log) t (steps_of world.threads t)
-  log-at t d l = run_logs-at (threads_by p log) (tallies_by p log) world.threads t d (let n = shown.counted in let m = shown.seated in omega (arith, n, m, l))
+  log-at t d l = run_logs-at (threads_by p log) (tallies_by p log) world.threads t d (let n = shown.are.counted in let m = shown.seated in omega (arith, n, m, l))
 
   -- the threads have come to their ends
   pub all-ended : ((t : ℕ) → t < length p.threads → has_ended (wanted (threads_by p log) t world) ≡ true) → All HasEnded seats
   all-ended over t seat l =
-      let core = settled t seat l in
-      let some : IsSome (state t).pending = some-pending (state t).pending _ (state_after-stands p log.limits (taken_in log) t (steps_of world.threads t)).pending in
-      let P : State → Type 0 = λ s. IsSome (option_and_then end_of s.pending) in
-      subst P (sym core) (some-end (state t).pending some (over t (let n = shown.seated in omega (arith, n, l))))
-    where
-      some-pending : (o : Option Want) (w : Want) → o ≡ Some w → IsSome o
-      some-pending None w h = cc
-      some-pending (Some x) w h = refl
+      at-end p log.limits (inputs_of (taken_in log) t) t (steps_of world.threads t) (slice_index_or seats t seat).core (settled t seat l) (over t (let n = shown.seated in omega (arith, n, l)))
 
   -- what is compared of a thread is what its log says
-  part-is : (t : ℕ) (seat : Seat) → t < length seats → part_of (run_log (threads_by p log) (tallies_by p log) t (steps_of world.threads t)) ≡ seat_part (slice_index_or seats t seat)
+  part-is : (t : ℕ) (seat : RunningThread) → t < length seats → part_of (run_log (threads_by p log) (tallies_by p log) t (steps_of world.threads t)) ≡ seat_part (slice_index_or seats t seat)
   part-is t seat l =
       let core = settled t seat l in
       let kept = shown.each t seat l in
-      same-part _ _ (sym (ap (λ (s : DepLogState). s.entries) kept.seen)) (sym kept.counted) (sym (ap (λ (s : State). s.instr) core))
+      same-part _ _ (sym kept.logged) (sym kept.counted) (sym (ap (λ (s : State). s.instr) core))
       (same-end (state t).pending ∙ sym (ap (λ (s : State). end_or_halted (option_and_then end_of s.pending)) core))
       (length-take-le (state t).taken (inputs_of (taken_in log) t) (taken_within p log.limits (taken_in log) t (steps_of world.threads t)) ∙ sym (ap (λ (s : State). s.taken) core))
 
@@ -132,10 +96,10 @@ module _ (p : ProgramValue) (log : Log) (world : World) (cells : List Cell) (sea
           get_or-map part_of logs t no_thread d n ∙ ap part_of (log-at t no_thread m) ∙ part-is t seat m ∙ sym (get_or-map seat_part seats t seat d m)
 
   -- where the threads and the last tags are as logged, the state has the log
-  shows-log : map part_of log.threads ≡ map seat_part seats → log.lasts ≡ last_tags cells → ShowsLog p log world
-  shows-log parts lasts = record {
+  shows-log : map part_of log.threads ≡ map seat_part seats → log.last_tags ≡ last_tags shared.cells.items → ShowsLog p log world
+  shows-log parts tags = record {
     logs = same_lists logs log.threads (logs-length ∙ shown.seated ∙ counted) each;
-    lasts = ap last_tags (sym shown.memory) ∙ sym lasts;
+    last_tags = ap last_tags (sym shown.are.memory) ∙ sym tags;
   }
     where
       same : map part_of logs ≡ map part_of log.threads
@@ -166,37 +130,36 @@ module _ (p : ProgramValue) (log : Log) (world : World) (cells : List Cell) (sea
               took ∙ take_all (state t).taken (inputs_of (taken_in log) t) (omega (arith, k, as_many)) ∙ list
 
   -- what is found is what is compared
-  items-found : items (log_found p log world) ≡ items_of (map seat_part seats) (last_tags cells)
-  items-found = ap (λ (parts : List Part). items_of parts (last_tags world.memory)) parts-found ∙ ap (λ (m : List Cell). items_of (map seat_part seats) (last_tags m)) (sym shown.memory)
+  items-found : items (log_found p log world) ≡ items_of (map seat_part seats) (last_tags shared.cells.items)
+  items-found = ap (λ (parts : List Part). items_of parts (last_tags world.memory)) parts-found ∙ ap (λ (m : List Cell). items_of (map seat_part seats) (last_tags m)) (sym shown.are.memory)
 
   -- a state that has the log is found with what is logged
   items-same : ShowsLog p log world → items log ≡ items (log_found p log world)
   items-same has =
-      ap (λ (threads : List ThreadLog). items_of (map part_of threads) log.lasts) (sym has.logs) ∙ ap (λ (lasts : List Tag). items_of (map part_of logs) lasts) (sym has.lasts)
+      ap (λ (threads : List ThreadLog). items_of (map part_of threads) log.last_tags) (sym has.logs) ∙ ap (λ (tags : List Tag). items_of (map part_of logs) tags) (sym has.last_tags)
 
-  reports-are : map (λ (seat : Seat). report_of seat.core) seats ≡ reports_of p log.limits (taken_in log) world
+  reports-are : map (λ (seat : RunningThread). report_of seat.core) seats ≡ reports_of p log.limits (taken_in log) world
   reports-are =
-      map-range (λ (seat : Seat). report_of seat.core) (λ (t : ℕ). report_of (state t)) seats 0
+      map-range (λ (seat : RunningThread). report_of seat.core) (λ (t : ℕ). report_of (state t)) seats 0
       (λ k d l. ap report_of (settled k d l) ∙ ap (λ (t : ℕ). report_of (state t)) (let e : k ≡ 0 + k = omega arith in e)) ∙
       ap (λ (n : ℕ). map (λ (t : ℕ). report_of (state t)) (range_with_len 0 n)) shown.seated
 
   -- what is answered is the verdict
-  pub verdict-is : (replayed : Replayed) → IsAnswer log cells seats replayed → IsVerdict p log world replayed
-  verdict-is (Same reports values) (parts, lasts, r, v) = (shows-log parts lasts, r ∙ reports-are, v ∙ ap (λ (m : List Cell). map (λ (cell : Cell). cell.value) m) shown.memory)
+  pub verdict-is : (replayed : Replayed) → IsAnswer log shared.cells.items seats replayed → IsVerdict p log world replayed
+  verdict-is (Same reports values) (parts, tags, r, v) = (shows-log parts tags, r ∙ reports-are, v ∙ ap (λ (m : List Cell). map (λ (cell : Cell). cell.value) m) shown.are.memory)
   verdict-is (Differs d) h =
       let found : DifferFirst (items log) (items (log_found p log world)) d = subst (λ (l : List Item). DifferFirst (items log) l d) (sym items-found) h in
       (λ has. never-same (items log) (items (log_found p log world)) d found (items-same has), found)
 
 -- ---- a replay
 
-module _ (r : Replaying) (cells given : List Cell) (seats taken : List Seat) (after : List Cell) (done : List Seat) (is : IsReplaying r cells seats) (c : given ≡ cells) (s : taken ≡ seats)
-    (shown : (world : World) → IsShown r.program r.log world given taken → IsShown r.program r.log (run_out r.program r.log (length taken) world) after done)
-    (settled : (world : World) → IsShown r.program r.log world given taken → AreSettled r.program r.log (run_out r.program r.log (length taken) world) done) where
-  there : IsShown r.program r.log (world_of r) given taken
+module _ (r : Replaying) (shared : ReplayWords) (seats taken : List RunningThread) (after : ReplayWords) (done : List RunningThread) (is : IsReplaying r shared seats) (s : taken ≡ seats)
+    (shown : (world : World) → IsShown r.program r.log world shared taken → IsShown r.program r.log (run_out r.program r.log (length taken) world) after done)
+    (settled : (world : World) → IsShown r.program r.log world shared taken → AreSettled r.program r.log (run_out r.program r.log (length taken) world) done) where
+  there : IsShown r.program r.log (world_of r) shared taken
   there =
-      let P : List Cell → Type 0 = λ l. IsShown r.program r.log (world_of r) l taken in
-      let Q : List Seat → Type 0 = λ l. IsShown r.program r.log (world_of r) cells l in
-      subst P (sym c) (subst Q (sym s) is.shown)
+      let Q : List RunningThread → Type 0 = λ l. IsShown r.program r.log (world_of r) shared l in
+      subst Q (sym s) is.shown
 
   all-threads : length taken ≡ length r.log.threads
   all-threads = there.seated ∙ is.threads
@@ -213,12 +176,9 @@ module _ (r : Replaying) (cells given : List Cell) (seats taken : List Seat) (af
   over : (t : ℕ) → t < length r.program.threads → has_ended (wanted (threads_by r.program r.log) t (ended r)) ≡ true
   over t l =
       let n = is.threads in
-      finish_ends (threads_by r.program r.log) (keeps r.log) r.log.limits.steps (length r.log.threads) (world_of r) (ends_within r.program r.log.limits (taken_in r.log)) (let k = there.counted in omega (arith, k, n)) t (omega (arith, l, n))
+      finish_ends (threads_by r.program r.log) (keeps r.log) r.log.limits.steps (length r.log.threads) (world_of r) (ends_within r.program r.log.limits (taken_in r.log)) (let k = there.are.counted in omega (arith, k, n)) t (omega (arith, l, n))
 
   -- what was written back
-  pub cells-back : (n : ℕ) → length given ≡ n → take n (after ++ drop (length after) cells) ≡ after
-  cells-back n l = written_back n after cells (ap length (sym c) ∙ l) (end-shown.sized ∙ sym there.sized ∙ l)
-
   pub seats-back : (n : ℕ) → length taken ≡ n → take n (done ++ drop (length done) seats) ≡ done
   seats-back n l = written_back n done seats (ap length (sym s) ∙ l) (end-shown.seated ∙ sym there.seated ∙ l)
 
@@ -226,6 +186,6 @@ module _ (r : Replaying) (cells given : List Cell) (seats taken : List Seat) (af
   ends-all = all-ended r.program r.log (ended r) after done end-shown end-settled is.threads over
 
   -- the verdict
-  pub verdict-of : (seen : Replaying) (replayed : Replayed) → r ≡ seen → IsAnswer r.log after done replayed → IsVerdict seen.program seen.log (ended seen) replayed
+  pub verdict-of : (seen : Replaying) (replayed : Replayed) → r ≡ seen → IsAnswer r.log after.cells.items done replayed → IsVerdict seen.program seen.log (ended seen) replayed
   verdict-of seen replayed view h =
       subst (λ (x : Replaying). IsVerdict x.program x.log (ended x) replayed) view (verdict-is r.program r.log (ended r) after done end-shown end-settled is.threads replayed h)

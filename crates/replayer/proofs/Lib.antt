@@ -1,6 +1,5 @@
 pub mod Adding
 pub mod Cursors
-pub mod Seats
 pub mod Running
 pub mod Items
 pub mod Ending

@@ -1,5 +1,5 @@
 -- The first difference between two logs.
-use Rattle.std.specs.Prelude.{◌≡◌, ◌≢◌, ℕ, ◌+◌, Option, None, Some, slice_get, List, [], ◌∷◌, ◌++◌, length, map}
+use Rattle.std.specs.Prelude.{◌≡◌, ◌≢◌, ℕ, ◌+◌, Option, None, Some, slice_get, List, [], ◌∷◌, ◌++◌, length, map, MatchOption}
 use Rattle.replay_model.specs.declared.Entry.{Entry}
 use Rattle.replay_model.specs.declared.End.{End}
 use Rattle.replay_model.specs.Steps.{Tag}
@@ -45,10 +45,10 @@ tag_items count w (tag ∷ tags) = record { thread = count; entry = w; kept = ke
 
 -- all that is compared, in this order
 abbrev pub items_of : List Part → List Tag → List Item
-items_of parts lasts = thread_items 0 parts ++ tag_items (length parts) 0 lasts
+items_of parts last_tags = thread_items 0 parts ++ tag_items (length parts) 0 last_tags
 
 abbrev pub items : Log → List Item
-items log = items_of (map part_of log.threads) log.lasts
+items log = items_of (map part_of log.threads) log.last_tags
 
 -- up to this place the two lists keep the same, and here they differ
 pub record DifferFirst (logged found : List Item) (difference : Difference) : Type 0 where
@@ -58,6 +58,22 @@ pub record DifferFirst (logged found : List Item) (difference : Difference) : Ty
   pub logged_is : logged ≡ before ++ record { thread = difference.thread; entry = difference.entry; kept = difference.logged } ∷ rest_logged
   pub found_is : found ≡ before ++ record { thread = difference.thread; entry = difference.entry; kept = difference.found } ∷ rest_found
   pub unequal : difference.logged ≢ difference.found
+
+-- ---- what comparing answers: none where both are the same, and else the first difference
+
+-- the last tags
+abbrev pub TagsCompared : ℕ → List Tag → List Tag → Option Difference → Type 0
+TagsCompared threads logged found answer =
+    MatchOption answer (logged ≡ found) (DifferFirst (tag_items threads 0 logged) (tag_items threads 0 found))
+
+-- the threads
+abbrev pub PartsCompared : List Part → List Part → Option Difference → Type 0
+PartsCompared logged found answer = MatchOption answer (logged ≡ found) (DifferFirst (thread_items 0 logged) (thread_items 0 found))
+
+-- all
+abbrev pub LogCompared : Log → List Part → List Tag → Option Difference → Type 0
+LogCompared log parts tags answer =
+    MatchOption answer ((map part_of log.threads ≡ parts) × (log.last_tags ≡ tags)) (DifferFirst (items log) (items_of parts tags))
 
 abbrev pub IsFirstDifference : Log → Log → Difference → Type 0
 IsFirstDifference logged found difference = DifferFirst (items logged) (items found) difference

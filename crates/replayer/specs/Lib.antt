@@ -2,4 +2,5 @@ pub mod Replays
 pub mod Differences
 pub mod Verdicts
 pub mod KeptSteps
+pub mod Words
 pub mod Seats

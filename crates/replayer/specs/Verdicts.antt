@@ -5,7 +5,7 @@ use Rattle.replay_model.specs.Steps.{Event, Step}
 use Rattle.replay_model.specs.Histories.{World, steps_of}
 use Rattle.replay_model.specs.Logs.{Log}
 use Rattle.replay_model.specs.RunLogs.{Tallies, HasLog, log_of}
-use Rattle.replay_model.specs.Fitting.{finals}
+use Rattle.replay_model.specs.Fitting.{last_values}
 use Rattle.machine.specs.Cores.{Report, report_of}
 use Rattle.machine.specs.Programs.{ProgramValue, LimitsValue}
 use Rattle.machine.specs.Inputs.{InputsValue}
@@ -16,7 +16,7 @@ use Rattle.history.specs.Histories.{IsHistory}
 use Rattle.history.specs.HistoryLogs.{log_of_history, FitsProgram}
 use Rattle.replayer.specs.declared.replay.Replayed.{Replayed}
 use Rattle.replayer.specs.declared.replay.Replayed.TheVariants.{Same, Differs}
-use Rattle.replayer.specs.Replays.{threads_by, replay_by}
+use Rattle.replayer.specs.Replays.{Replaying, threads_by, replay_by, world_of, world_by}
 use Rattle.replayer.specs.Differences.{IsFirstDifference}
 
 -- what the threads count under the numbers that the log holds
@@ -44,7 +44,7 @@ reports_of_runs p log runs = map (λ (t : ℕ). report_of (state_after p log.lim
 -- some runs fit the log, and these are their reports and the values that the last tags name; or no runs fit it
 abbrev pub IsExact : ProgramValue → Log → Replayed → Type 0
 IsExact p log (Same reports values) =
-    (runs : List (List Step)) × FitsProgram p log runs × (reports.items ≡ reports_of_runs p log runs) × (values.items ≡ finals p.words log runs)
+    (runs : List (List Step)) × FitsProgram p log runs × (reports.items ≡ reports_of_runs p log runs) × (values.items ≡ last_values p.words log runs)
 IsExact p log (Differs difference) = (runs : List (List Step)) → FitsProgram p log runs → ⊥
 
 -- the reports and the last values of this history
@@ -52,6 +52,16 @@ abbrev pub IsHistoryAgain : ProgramValue → LimitsValue → InputsValue → Lis
 IsHistoryAgain p limits inputs history (Same reports values) =
     (reports.items ≡ reports_of p limits inputs (world_after p limits inputs history)) × (values.items ≡ values_of (world_after p limits inputs history))
 IsHistoryAgain p limits inputs history (Differs difference) = ⊥
+
+-- those of each history that has the log
+abbrev pub IsAnyHistoryAgain : ProgramValue → Log → Replayed → Type 0
+IsAnyHistoryAgain p log replayed = (limits : LimitsValue) (inputs : InputsValue) (digest history : List ℕ) → IsHistory p limits inputs history →
+    log ≡ log_of_history p limits inputs digest history → IsHistoryAgain p limits inputs history replayed
+
+-- the answer is exact where the turns were those of an order that respects the log
+abbrev pub IsExactByAnyOrder : Replaying → Replayed → Type 0
+IsExactByAnyOrder replaying replayed = (order : List Event) → Respects replaying.log order →
+    world_of replaying ≡ world_by replaying.program replaying.log order → IsExact replaying.program replaying.log replayed
 
 -- ---- the laws
 

@@ -1,12 +1,12 @@
 // The first difference between a log and what a replay found.
 ghost use Rattle.std.specs.Prelude.{◌≡◌, ◌<◌, ◌≤◌, ◌↔◌, ◌^◌, IsTrue, MatchOption, length};
 ghost use Rattle.replay_model.specs.RunLogs.{last_tags};
-ghost use Rattle.replayer.specs.Differences.{part_of, part_items, tag_items, DifferFirst};
+ghost use Rattle.replayer.specs.Differences.{part_of, part_items, TagsCompared, DifferFirst};
 
 use dep_log::{Entry, ThreadLog};
-use history::cells::same_tag;
 use light_base::{Cell, Tag};
 use machine::End;
+use running_thread::cells::same_tag;
 use std::marker::Model;
 
 /// What a log keeps at one place.
@@ -155,7 +155,7 @@ pub(crate) fn thread_difference(thread: u8, logged: &Side, found: &Side) -> Opti
 pub(crate) fn tag_difference(threads: u8, logged: &[Tag], cells: &[Cell]) -> Option<Difference>
     requires words { length logged.now ≡ length cells.now }
     requires few { length logged.now < 2 ^ 32 }
-    ensures { MatchOption result (logged.now ≡ last_tags cells.now) (DifferFirst (tag_items threads 0 logged.now) (tag_items threads 0 (last_tags cells.now))) }
+    ensures { TagsCompared threads logged.now (last_tags cells.now) result }
 {
     for (word, cell) in cells.iter().enumerate() {
         let there = logged[word];

@@ -8,6 +8,7 @@ mod laws;
 mod order;
 mod replay;
 mod seat;
+mod words;
 
 pub use difference::{Difference, Kept};
 pub use laws::replay_law;

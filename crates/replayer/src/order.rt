@@ -1,12 +1,8 @@
 // A replay by a whole order.
-ghost use Rattle.std.specs.Prelude.{◌≡◌, ℕ, List, IfOk, length};
+ghost use Rattle.std.specs.Prelude.{◌≡◌, IfOk, length};
 ghost use Rattle.replay_model.specs.Orders.{Respects};
-ghost use Rattle.machine.specs.Programs.{LimitsValue};
-ghost use Rattle.machine.specs.Inputs.{InputsValue};
-ghost use Rattle.history.specs.Histories.{IsHistory};
-ghost use Rattle.history.specs.HistoryLogs.{log_of_history};
 ghost use Rattle.replayer.specs.Replays.{replay_by};
-ghost use Rattle.replayer.specs.Verdicts.{IsVerdict, IsExact, IsHistoryAgain};
+ghost use Rattle.replayer.specs.Verdicts.{IsVerdict, IsExact, IsAnyHistoryAgain};
 
 use crate::laws::replay_law;
 use crate::replay::{Replay, Replayed};
@@ -24,12 +20,12 @@ pub fn replay_order(
     order: &[Event],
 ) -> Result<Replayed, Memory>
     requires threads { length program.now.threads ≡ length log.now.threads }
-    requires words { length program.now.words ≡ length log.now.lasts }
+    requires words { length program.now.words ≡ length log.now.last_tags }
     ensures verdict { IfOk result (IsVerdict program.now log.now (replay_by program.now log.now order.now)) }
     // For an order that respects the log: whether some runs fit the log, and what these report and leave.
     ensures exact { IfOk result (λ replayed. Respects log.now order.now → IsExact program.now log.now replayed) }
     // For the log of a history too: what this very history reported and left.
-    ensures history { IfOk result (λ replayed. Respects log.now order.now → (limits : LimitsValue) (inputs : InputsValue) (digest history : List ℕ) → IsHistory program.now limits inputs history → log.now ≡ log_of_history program.now limits inputs digest history → IsHistoryAgain program.now limits inputs history replayed) }
+    ensures history { IfOk result (λ replayed. Respects log.now order.now → IsAnyHistoryAgain program.now log.now replayed) }
 {
     replay_law();
     let mut replay = Replay::new(alloc, program, log)?;

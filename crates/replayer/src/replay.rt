@@ -4,18 +4,21 @@ ghost use Rattle.replay_model.specs.RunLogs.{last_tags};
 ghost use Rattle.replay_model.specs.Histories.{World, steps_of};
 ghost use Rattle.replay_model.specs.Orders.{Respects};
 ghost use Rattle.machine.specs.Cores.{report_of};
-ghost use Rattle.replayer.specs.Differences.{part_of, items, items_of, thread_items, DifferFirst};
+ghost use Rattle.replayer.specs.Differences.{part_of, PartsCompared, LogCompared};
 ghost use Rattle.replayer.specs.Replays.{Replaying, unplayed, after_turn, world_by, world_of, thread_steps, ended, IsTurned, HasBegun};
-ghost use Rattle.replayer.specs.Verdicts.{IsVerdict, IsExact};
-ghost use Rattle.replayer.specs.Seats.{seat_part, run_out, AreFresh, HasEnded, IsShown, AreSettled, IsAnswer};
+ghost use Rattle.replayer.specs.Verdicts.{IsVerdict, IsExactByAnyOrder};
+ghost use Rattle.replayer.specs.Seats.{seat_part, AreFresh, AreAllLeft, HasEnded, IsShown, AllRunOut, AllSettled, IsAnswer};
 
 use crate::difference::{Difference, logged_side, tag_difference, thread_difference};
+use crate::kept_steps::KeptSteps;
 use crate::laws::replay_law;
-use crate::seat::Seat;
+use crate::seat::{new_seat, run_to, run_to_end, side};
+use crate::words::ReplayWords;
 use dep_log::RunLog;
-use history::cells::opening_cells;
 use light_base::{Cell, Event, Memory};
 use machine::{End, Program, RunReport};
+use running_thread::RunningThread;
+use running_thread::cells::opening_cells;
 use std::alloc::Global;
 use std::marker::Model;
 
@@ -45,8 +48,8 @@ pub enum Replayed {
 pub struct Replay<'p> {
     program: &'p Program,
     log: &'p RunLog,
-    cells: Vec<Cell>,
-    seats: Vec<Seat>,
+    words: ReplayWords,
+    seats: Vec<RunningThread>,
     turns: Vec<Event>,
     alloc: Global,
 }
@@ -60,47 +63,63 @@ impl<'p> Model for Replay<'p> {
 
     ghost view = { λ r. record { program = r.program.now; log = r.log.now; turns = r.turns.items } };
 
-    ghost invariant = { λ r. IsReplaying (record { program = r.program.now; log = r.log.now; turns = r.turns.items }) r.cells.items r.seats.items };
+    ghost invariant = { λ r. IsReplaying (record { program = r.program.now; log = r.log.now; turns = r.turns.items }) r.words r.seats.items };
 }
 
 // The threads before any step.
-fn opening_seats(alloc: Global, program: &Program, log: &RunLog) -> Result<Vec<Seat>, Memory>
+fn opening_seats(
+    alloc: Global,
+    program: &Program,
+    log: &RunLog,
+) -> Result<Vec<RunningThread>, Memory>
+    requires { length program.now.threads ≡ length log.now.threads }
     ensures { IfOk result (λ seats. AreFresh program.now log.now (length program.now.threads) seats.items) }
 {
     let mut seats = Vec::new(alloc);
     for thread in 0..program.threads_count() as u8 {
-        seats.push(Seat::new(alloc, program, log, thread)?)?;
+        seats.push(new_seat(alloc, program, log, thread)?)?;
     }
     Ok(seats)
+}
+
+// For each thread the steps whose writes are made.
+fn opening_kept(alloc: Global, log: &RunLog, count: u8) -> Result<Vec<KeptSteps>, Memory>
+    ensures { IfOk result (λ kept. AreAllLeft log.now count kept.items) }
+{
+    let mut kept = Vec::with_capacity(alloc, usize::from(count))?;
+    for thread in 0..count {
+        kept.push(KeptSteps::of(alloc, log, thread)?)?;
+    }
+    Ok(kept)
 }
 
 // Runs each thread to its end, thread 0 first.
 fn run_out(
     program: &Program,
     log: &RunLog,
-    cells: &mut [Cell],
-    seats: &mut [Seat],
+    words: &mut ReplayWords,
+    seats: &mut [RunningThread],
 ) -> Result<(), Memory>
     requires counted { length program.now.threads ≡ length log.now.threads }
-    requires shown { (world : World) × IsShown program.now log.now world cells.old seats.old }
-    ensures shown { OnOk result ((world : World) → IsShown program.now log.now world cells.old seats.old → IsShown program.now log.now (run_out program.now log.now (length seats.old) world) cells.new seats.new) }
-    ensures settled { OnOk result ((world : World) → IsShown program.now log.now world cells.old seats.old → AreSettled program.now log.now (run_out program.now log.now (length seats.old) world) seats.new) }
+    requires shown { (world : World) × IsShown program.now log.now world words.old seats.old }
+    ensures shown { OnOk result (AllRunOut program.now log.now words.old seats.old words.new seats.new) }
+    ensures settled { OnOk result (AllSettled program.now log.now words.old seats.old seats.new) }
 {
     for thread in 0..seats.len() {
-        seats[thread].run_to_end(program, log, cells)?;
+        run_to_end(program, log, words, &mut seats[thread])?;
     }
     Ok(())
 }
 
 // The first place at which the threads differ from what is logged of them.
-fn threads_difference(log: &RunLog, seats: &[Seat]) -> Option<Difference>
+fn threads_difference(log: &RunLog, seats: &[RunningThread]) -> Option<Difference>
     requires counted { length seats.now ≡ length log.now.threads }
     requires ended { All HasEnded seats.now }
-    ensures { MatchOption result (map part_of log.now.threads ≡ map seat_part seats.now) (DifferFirst (thread_items 0 (map part_of log.now.threads)) (thread_items 0 (map seat_part seats.now))) }
+    ensures { PartsCompared (map part_of log.now.threads) (map seat_part seats.now) result }
 {
     for (thread, seat) in seats.iter().enumerate() {
         let logged = logged_side(&log.threads()[thread]);
-        if let Some(difference) = thread_difference(thread as u8, &logged, &seat.side()) {
+        if let Some(difference) = thread_difference(thread as u8, &logged, &side(seat)) {
             return Some(difference);
         }
     }
@@ -108,21 +127,21 @@ fn threads_difference(log: &RunLog, seats: &[Seat]) -> Option<Difference>
 }
 
 // The first place at which the threads or the last tags differ from what is logged.
-fn first_difference(log: &RunLog, cells: &[Cell], seats: &[Seat]) -> Option<Difference>
+fn first_difference(log: &RunLog, cells: &[Cell], seats: &[RunningThread]) -> Option<Difference>
     requires counted { length seats.now ≡ length log.now.threads }
-    requires words { length cells.now ≡ length log.now.lasts }
+    requires words { length cells.now ≡ length log.now.last_tags }
     requires ended { All HasEnded seats.now }
-    ensures { MatchOption result ((map part_of log.now.threads ≡ map seat_part seats.now) × (log.now.lasts ≡ last_tags cells.now)) (DifferFirst (items log.now) (items_of (map seat_part seats.now) (last_tags cells.now))) }
+    ensures { LogCompared log.now (map seat_part seats.now) (last_tags cells.now) result }
 {
-    let lasts = log.finals();
+    let last_tags = log.finals();
     if let Some(difference) = threads_difference(log, seats) {
         return Some(difference);
     }
-    tag_difference(seats.len() as u8, lasts, cells)
+    tag_difference(seats.len() as u8, last_tags, cells)
 }
 
 // What the threads report, in their order.
-fn reports(alloc: Global, seats: Vec<Seat>) -> Result<Vec<RunReport>, Memory>
+fn reports(alloc: Global, seats: Vec<RunningThread>) -> Result<Vec<RunReport>, Memory>
     requires { All HasEnded seats.items }
     ensures { IfOk result (λ reports. reports.items ≡ map (λ seat. report_of seat.core) seats.items) }
 {
@@ -142,9 +161,14 @@ fn values(alloc: Global, cells: &[Cell]) -> Result<Vec<u32>, Memory>
 }
 
 // What comes of a replay whose threads have run to their ends.
-fn answer(alloc: Global, log: &RunLog, cells: &[Cell], seats: Vec<Seat>) -> Result<Replayed, Memory>
+fn answer(
+    alloc: Global,
+    log: &RunLog,
+    cells: &[Cell],
+    seats: Vec<RunningThread>,
+) -> Result<Replayed, Memory>
     requires counted { length seats.items ≡ length log.now.threads }
-    requires words { length cells.now ≡ length log.now.lasts }
+    requires words { length cells.now ≡ length log.now.last_tags }
     requires ended { All HasEnded seats.items }
     ensures { IfOk result (IsAnswer log.now cells.now seats.items) }
 {
@@ -163,15 +187,16 @@ impl<'p> Replay<'p> {
     /// one of as many threads and words as the program has.
     pub fn new(alloc: Global, program: &'p Program, log: &'p RunLog) -> Result<Replay<'p>, Memory>
         requires threads { length program.now.threads ≡ length log.now.threads }
-        requires words { length program.now.words ≡ length log.now.lasts }
+        requires words { length program.now.words ≡ length log.now.last_tags }
         ensures { IfOk result (λ replay. replay ≡ unplayed program.now log.now) }
     {
         let cells = opening_cells(alloc, program.words())?;
+        let kept = opening_kept(alloc, log, program.threads_count() as u8)?;
         let seats = opening_seats(alloc, program, log)?;
         Ok(Replay {
             program,
             log,
-            cells,
+            words: ReplayWords { cells, kept },
             seats,
             turns: Vec::new(alloc),
             alloc,
@@ -204,7 +229,8 @@ impl<'p> Replay<'p> {
     {
         self.turns.reserve(1)?;
         let place = usize::from(event.thread);
-        match self.seats[place].run_to(self.program, self.log, &mut self.cells, event.step) {
+        let seat = &mut self.seats[place];
+        match run_to(self.program, self.log, &mut self.words, seat, event.step) {
             Ok(None) => {
                 self.turns.push_reserved(event);
                 Ok(Turned::Done)
@@ -231,18 +257,18 @@ impl<'p> Replay<'p> {
         ensures verdict { IfOk result (IsVerdict self.entry.program self.entry.log (ended self.entry)) }
         // After the turns of an order that respects the log: exactly where some runs fit the log, and then with their
         // reports and with the values that the last tags name.
-        ensures exact { IfOk result (λ replayed. (order : List Event) → Respects self.entry.log order → world_of self.entry ≡ world_by self.entry.program self.entry.log order → IsExact self.entry.program self.entry.log replayed) }
+        ensures exact { IfOk result (IsExactByAnyOrder self.entry) }
     {
         let Replay {
             program,
             log,
-            mut cells,
+            mut words,
             mut seats,
             turns: _,
             alloc,
         } = self;
         replay_law();
-        run_out(program, log, &mut cells, &mut seats)?;
-        answer(alloc, log, &cells, seats)
+        run_out(program, log, &mut words, &mut seats)?;
+        answer(alloc, log, &words.cells, seats)
     }
 }

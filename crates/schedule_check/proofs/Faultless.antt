@@ -27,7 +27,7 @@ pub record IsFaultless (log : Log) (order : List Event) : Type 0 where
   pub in_turn : IsInTurn order (length order)
   pub timely : (x : ℕ × Entry) → Contains (entries_of log) x → source_rank order x < first_rank order x
   pub apart : (x y : ℕ × Entry) → Contains (entries_of log) x → Contains (entries_of log) y → are_crossed order x y ≡ false
-  pub over : (word : ℕ) (x : ℕ × Entry) → word < length log.lasts → Contains (entries_of log) x → outlives log order word x ≡ false
+  pub over : (word : ℕ) (x : ℕ × Entry) → word < length log.last_tags → Contains (entries_of log) x → outlives log order word x ≡ false
 
 -- an event stands at its place and nowhere before
 pub place-first : (order : List Event) (k : ℕ) (d : Event) → k < length order → place order (get_or order k d) ≤ k

@@ -91,8 +91,8 @@ named-event log e i x q = let P : Event → Type 0 = IsEvent log in subst P (one
     one h = cc
 
 -- a last tag is an event
-pub named-last : (log : Log) (word : ℕ) → word < length log.lasts → IsNamed log (last_tag log word)
-named-last log word l e q = inl (inr (word, l, get_or_default log.lasts word (Some e) None l ∙ q))
+pub named-last : (log : Log) (word : ℕ) → word < length log.last_tags → IsNamed log (last_tag log word)
+named-last log word l e q = inl (inr (word, l, get_or_default log.last_tags word (Some e) None l ∙ q))
 
 -- the ranks that an entry's live range has
 pub record IsRanged (order : List Event) (x : ℕ × Entry) (range : LiveRange) : Type 0 where
@@ -209,7 +209,7 @@ overlap-crossed order x y r s a b lx ly (inr i) =
     crossed_from order x y (sym w, (λ e. n (sym e)), d, c)
 
 -- an entry outlives its word's last tag where its live range is too long
-pub outlives-long : (log : Log) (order : List Event) (places ends : List ℕ) → IsLaid log order places → (word : ℕ) (x : ℕ × Entry) (r : LiveRange) → IsRanged order x r → HasEntry log x.0 x.1 → word < length log.lasts →
+pub outlives-long : (log : Log) (order : List Event) (places ends : List ℕ) → IsLaid log order places → (word : ℕ) (x : ℕ × Entry) (r : LiveRange) → IsRanged order x r → HasEntry log x.0 x.1 → word < length log.last_tags →
     slice_index ends word ≡ rank_of order (last_tag log word) → outlives log order word x ≡ true → (r.word ≡ word) × IsTooLong ends r
 outlives-long log order places ends laid word x r a h l e t =
     let (ab, c) = and_parts (eqb x.1.word word && not (same_tag x.1.source (last_tag log word))) (nat_lt (rank_of order (last_tag log word)) (last_rank order x)) t in

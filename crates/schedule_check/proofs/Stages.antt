@@ -18,10 +18,10 @@ use Rattle.order_judge.specs.declared.live_ranges.LiveRange.{LiveRange}
 use Rattle.order_judge.specs.LiveRanges.{no_range, range_at, Overlap, IsFirstOverlap, AreApart}
 use Rattle.constraints.specs.declared.placed.Placed.{Placed}
 use Rattle.constraints.specs.Positions.{no_event, event_list}
-use Rattle.constraints.specs.Building.{placed_in, placed_entries, placed_finals, HasEvents}
+use Rattle.constraints.specs.Building.{placed_in, placed_entries, placed_last_tags, HasEvents}
 use Rattle.constraints.proofs.Listed.{entry_is, in_list}
 use Rattle.constraints.proofs.Naming.{flat_map_range_more}
-use Rattle.constraints.proofs.Placing.{entries_listed, finals_listed, of_placed}
+use Rattle.constraints.proofs.Placing.{entries_listed, last_tags_listed, of_placed}
 use Rattle.schedule_check.specs.declared.faults.OrderKind.TheVariants.{ReadBeforeWrite, Between, Final}
 use Rattle.schedule_check.specs.Faults.{fault, entries_of, rank_of, source_rank, first_rank, last_rank, are_crossed, outlives, first_early, first_crossed, first_outliving}
 use Rattle.schedule_check.specs.Turns.{IsInTurn}
@@ -68,8 +68,8 @@ entries-places log order events places entries p e = λ k d l. has (get_or entri
 abbrev pub HasPlace : List ℕ → Option ℕ → Type 0
 HasPlace places position = IfSome position (λ i. i < length places)
 
-pub finals-places : (log : Log) (order events : List Event) (places : List ℕ) (finals : List (Option ℕ)) → IsPlaced log order events places → finals ≡ placed_finals log → All (HasPlace places) finals
-finals-places log order events places finals p e = subst (λ (xs : List (Option ℕ)). All (HasPlace places) xs) (sym e) all
+pub last_tags-places : (log : Log) (order events : List Event) (places : List ℕ) (last_tags : List (Option ℕ)) → IsPlaced log order events places → last_tags ≡ placed_last_tags log → All (HasPlace places) last_tags
+last_tags-places log order events places last_tags p e = subst (λ (xs : List (Option ℕ)). All (HasPlace places) xs) (sym e) all
   where
     inside : (x : Event) → Contains (event_list log) x → place (event_list log) x < length places
     inside x c = let l = place-contains (event_list log) x c in let n = p.count ∙ ap length p.listed in omega (arith, l, n)
@@ -78,10 +78,10 @@ finals-places log order events places finals p e = subst (λ (xs : List (Option 
     one None c = tt
     one (Some x) c = inside x c
 
-    all : All (HasPlace places) (placed_finals log)
+    all : All (HasPlace places) (placed_last_tags log)
     all k d l =
-        let m : k < length log.lasts = let c = length-map log.lasts (option_map (place (event_list log))) in omega (arith, l, c) in
-        subst (HasPlace places) (sym (get_or-map (option_map (place (event_list log))) log.lasts k None d m)) (one (get_or log.lasts k None) (finals_listed log p.formed k None m))
+        let m : k < length log.last_tags = let c = length-map log.last_tags (option_map (place (event_list log))) in omega (arith, l, c) in
+        subst (HasPlace places) (sym (get_or-map (option_map (place (event_list log))) log.last_tags k None d m)) (one (get_or log.last_tags k None) (last_tags_listed log p.formed k None m))
 
 -- a log has at most so many entries
 entries_below : (log : Log) → IsWellFormed log → (n : ℕ) → n ≤ length log.threads → length (flat_map (of_thread log) (range_with_len 0 n)) ≤ n * 16384
@@ -153,7 +153,7 @@ entries-ranged log order places entries ranges laid e r = record {
         ap (λ (xs : List LiveRange). range_at xs i) r ∙ get_or-map (range_in places) entries i _ no_range m ∙
         ap (range_in places) (ap (λ (xs : List Placed). placed_at xs i) e ∙ placed-entry log i l)
 
--- sources stand no later than lasts
+-- sources stand no later than last reads
 pub record AreLater (log : Log) (order : List Event) : Type 0 where
   pub later : (i : ℕ) → i < length (entries_of log) → source_rank order (entry_at log i) ≤ last_rank order (entry_at log i)
 
@@ -192,21 +192,21 @@ stage_crossed log order places ranges laid r a i j f = crossed-some log order i 
 -- the last tags
 
 pub record AreEndsOf (log : Log) (order : List Event) (ends : List ℕ) : Type 0 where
-  pub count : length ends ≡ length log.lasts
-  pub same : (word : ℕ) → word < length log.lasts → slice_index ends word ≡ rank_of order (last_tag log word)
+  pub count : length ends ≡ length log.last_tags
+  pub same : (word : ℕ) → word < length log.last_tags → slice_index ends word ≡ rank_of order (last_tag log word)
 
-pub finals-ends : (log : Log) (order : List Event) (places : List ℕ) (finals : List (Option ℕ)) (ends : List ℕ) → IsLaid log order places → finals ≡ placed_finals log → ends ≡ map (rank_in places) finals → AreEndsOf log order ends
-finals-ends log order places finals ends laid e r = record {
-  count = ap length r ∙ length-map finals (rank_in places) ∙ many;
+pub last_tags-ends : (log : Log) (order : List Event) (places : List ℕ) (last_tags : List (Option ℕ)) (ends : List ℕ) → IsLaid log order places → last_tags ≡ placed_last_tags log → ends ≡ map (rank_in places) last_tags → AreEndsOf log order ends
+last_tags-ends log order places last_tags ends laid e r = record {
+  count = ap length r ∙ length-map last_tags (rank_in places) ∙ many;
   same = λ word l.
-      let m : word < length finals = let n = many in omega (arith, l, n) in
-      ap (λ (xs : List ℕ). get_or xs word 0) r ∙ get_or-map (rank_in places) finals word None 0 m ∙
-      ap (rank_in places) (ap (λ (xs : List (Option ℕ)). get_or xs word None) e ∙ get_or-map (option_map (place (event_list log))) log.lasts word None None l) ∙
+      let m : word < length last_tags = let n = many in omega (arith, l, n) in
+      ap (λ (xs : List ℕ). get_or xs word 0) r ∙ get_or-map (rank_in places) last_tags word None 0 m ∙
+      ap (rank_in places) (ap (λ (xs : List (Option ℕ)). get_or xs word None) e ∙ get_or-map (option_map (place (event_list log))) log.last_tags word None None l) ∙
       rank-tag log order places laid (last_tag log word) (named-last log word l);
 }
   where
-    many : length finals ≡ length log.lasts
-    many = ap length e ∙ length-map log.lasts (option_map (place (event_list log)))
+    many : length last_tags ≡ length log.last_tags
+    many = ap length e ∙ length-map log.last_tags (option_map (place (event_list log)))
 
 -- the word of each live range has its last tag
 pub ranges-words : (log : Log) (order : List Event) (ranges : List LiveRange) (ends : List ℕ) → IsWellFormed log → AreRangesOf log order ranges → AreEndsOf log order ends → All (λ (range : LiveRange). range.word < length ends) ranges
@@ -242,7 +242,7 @@ stage_outliving log order places ranges ends laid r s word i f = outliving-some 
     below : i < length (entries_of log)
     below = let l = f.below in let n = r.count in omega (arith, l, n)
 
-    inside : word < length log.lasts
+    inside : word < length log.last_tags
     inside =
         let w = (entry_is log laid.formed (entry_at log i).0 (entry_at log i).1 (has-entry log i below)).word in
         let a : (range_at ranges i).word ≡ (entry_at log i).1.word = (r.ranged i below).word in

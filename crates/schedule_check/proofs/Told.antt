@@ -242,10 +242,10 @@ crossed-some log order i j l m here first second =
 -- final
 
 abbrev pub AreOver : Log → List Event → Type 0
-AreOver log order = (word i : ℕ) → word < length log.lasts → i < length (entries_of log) → outlives log order word (entry_at log i) ≡ false
+AreOver log order = (word i : ℕ) → word < length log.last_tags → i < length (entries_of log) → outlives log order word (entry_at log i) ≡ false
 
 abbrev pub words_of : Log → List ℕ
-words_of log = range_with_len 0 (length log.lasts)
+words_of log = range_with_len 0 (length log.last_tags)
 
 abbrev pub is_outlived : Log → List Event → ℕ → Bool
 is_outlived log order word = list_any (outlives log order word) (entries_of log)
@@ -253,14 +253,14 @@ is_outlived log order word = list_any (outlives log order word) (entries_of log)
 abbrev pub final_at : Log → List Event → ℕ → OrderFault
 final_at log order word = fault Final word (position_or_len (outlives log order word) (entries_of log))
 
-word_at : (log : Log) (word : ℕ) → word < length log.lasts → get_or (words_of log) word 0 ≡ word
-word_at log word l = let e = get_or-range_with_len 0 (length log.lasts) word 0 l in omega (arith, e)
+word_at : (log : Log) (word : ℕ) → word < length log.last_tags → get_or (words_of log) word 0 ≡ word
+word_at log word l = let e = get_or-range_with_len 0 (length log.last_tags) word 0 l in omega (arith, e)
 
-word-below : (log : Log) (word : ℕ) → word < length (words_of log) → word < length log.lasts
-word-below log word l = let c = length-range_with_len 0 (length log.lasts) in omega (arith, l, c)
+word-below : (log : Log) (word : ℕ) → word < length (words_of log) → word < length log.last_tags
+word-below log word l = let c = length-range_with_len 0 (length log.last_tags) in omega (arith, l, c)
 
-below-word : (log : Log) (word : ℕ) → word < length log.lasts → word < length (words_of log)
-below-word log word l = let c = length-range_with_len 0 (length log.lasts) in omega (arith, l, c)
+below-word : (log : Log) (word : ℕ) → word < length log.last_tags → word < length (words_of log)
+below-word log word l = let c = length-range_with_len 0 (length log.last_tags) in omega (arith, l, c)
 
 pub outliving-none : (log : Log) (order : List Event) → AreOver log order → first_outliving log order ≡ None
 outliving-none log order h = map_none (final_at log order) (position (is_outlived log order) (words_of log))
@@ -273,7 +273,7 @@ none-outliving log order h word i l m = false_any (outlives log order word) (ent
     (sym (ap (is_outlived log order) (word_at log word l)) ∙
     position-none (is_outlived log order) (words_of log) 0 (none_map (final_at log order) (position (is_outlived log order) (words_of log)) h) word (below-word log word l)) i m
 
-pub outliving-some : (log : Log) (order : List Event) (word i : ℕ) → word < length log.lasts → i < length (entries_of log) → outlives log order word (entry_at log i) ≡ true →
+pub outliving-some : (log : Log) (order : List Event) (word i : ℕ) → word < length log.last_tags → i < length (entries_of log) → outlives log order word (entry_at log i) ≡ true →
     ((v k : ℕ) → v < word → k < length (entries_of log) → outlives log order v (entry_at log k) ≡ false) → ((k : ℕ) → k < i → outlives log order word (entry_at log k) ≡ false) →
     Told (first_outliving log order) (fault Final word i)
 outliving-some log order word i l m here first second =

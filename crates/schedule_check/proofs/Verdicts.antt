@@ -5,7 +5,7 @@ use Rattle.replay_model.specs.Logs.{Log}
 use Rattle.order_judge.specs.declared.live_ranges.LiveRange.{LiveRange}
 use Rattle.order_judge.specs.LiveRanges.{IsFirstOverlap, AreApart}
 use Rattle.constraints.specs.declared.placed.Placed.{Placed}
-use Rattle.constraints.specs.Building.{placed_entries, placed_finals}
+use Rattle.constraints.specs.Building.{placed_entries, placed_last_tags}
 use Rattle.schedule_check.specs.declared.faults.OrderFault.{OrderFault}
 use Rattle.schedule_check.specs.declared.faults.OrderKind.TheVariants.{ThreadOrder, ReadBeforeWrite, Between, Final}
 use Rattle.schedule_check.specs.declared.faults.Verdict.TheVariants as verdict
@@ -15,7 +15,7 @@ use Rattle.schedule_check.specs.Ranks.{rank_in, range_in, AreTimely, IsFirstUnti
 use Rattle.schedule_check.specs.Placed.{IsPlaced}
 use Rattle.schedule_check.proofs.Told.{overtaken-none, overtaken-some}
 use Rattle.schedule_check.proofs.Saying.{first_is-overtaken, first_is-early, first_is-crossed, first_is-outliving}
-use Rattle.schedule_check.proofs.Stages.{placed-laid, AreRangesOf, AreEndsOf, entries-ranged, finals-ends, stage_early-none, stage_early, stage_later, stage_apart, stage_crossed, stage_over, stage_outliving}
+use Rattle.schedule_check.proofs.Stages.{placed-laid, AreRangesOf, AreEndsOf, entries-ranged, last_tags-ends, stage_early-none, stage_early, stage_later, stage_apart, stage_crossed, stage_over, stage_outliving}
 
 tells : (log : Log) (order : List Event) (f : OrderFault) → first_fault log order ≡ Some f → verdict.Fault f ≡ verdict_of log order
 tells log order f e = sym (ap told e)
@@ -44,28 +44,28 @@ verdict_crossed log order events places entries ranges i j o r f =
     (stage_crossed log order places ranges laid (entries-ranged log order places entries ranges laid o.listed r) (stage_later log order places entries laid o.listed o.in_turn o.timely) i j f))
 
 -- and no two entries are crossed
-pub record IsCleared (log : Log) (order events : List Event) (places : List ℕ) (entries : List Placed) (ranges : List LiveRange) (finals : List (Option ℕ)) (ends : List ℕ) : Type 0 where
+pub record IsCleared (log : Log) (order events : List Event) (places : List ℕ) (entries : List Placed) (ranges : List LiveRange) (last_tags : List (Option ℕ)) (ends : List ℕ) : Type 0 where
   pub ordered : IsOrdered log order events places entries
   pub ranged : ranges ≡ map (range_in places) entries
   pub apart : AreApart ranges
-  pub listed : finals ≡ placed_finals log
-  pub ended : ends ≡ map (rank_in places) finals
+  pub listed : last_tags ≡ placed_last_tags log
+  pub ended : ends ≡ map (rank_in places) last_tags
 
-verdict_last : (log : Log) (order events : List Event) (places : List ℕ) (entries : List Placed) (ranges : List LiveRange) (finals : List (Option ℕ)) (ends : List ℕ) (found : Option OrderFault) →
-    IsCleared log order events places entries ranges finals ends → (AreRangesOf log order ranges → AreEndsOf log order ends → first_outliving log order ≡ found) → told found ≡ verdict_of log order
-verdict_last log order events places entries ranges finals ends found c f =
+verdict_last : (log : Log) (order events : List Event) (places : List ℕ) (entries : List Placed) (ranges : List LiveRange) (last_tags : List (Option ℕ)) (ends : List ℕ) (found : Option OrderFault) →
+    IsCleared log order events places entries ranges last_tags ends → (AreRangesOf log order ranges → AreEndsOf log order ends → first_outliving log order ≡ found) → told found ≡ verdict_of log order
+verdict_last log order events places entries ranges last_tags ends found c f =
     let o = c.ordered in
     let laid = placed-laid log order events places o.placed in
     let r = entries-ranged log order places entries ranges laid o.listed c.ranged in
     sym (ap told (first_is-outliving log order found o.placed.each_once (overtaken-none order o.in_turn) (stage_early-none log order places entries laid o.listed o.timely)
-    (stage_apart log order places ranges laid r c.apart) (f r (finals-ends log order places finals ends laid c.listed c.ended))))
+    (stage_apart log order places ranges laid r c.apart) (f r (last_tags-ends log order places last_tags ends laid c.listed c.ended))))
 
-pub verdict_final : (log : Log) (order events : List Event) (places : List ℕ) (entries : List Placed) (ranges : List LiveRange) (finals : List (Option ℕ)) (ends : List ℕ) (word i : ℕ) →
-    IsCleared log order events places entries ranges finals ends → IsFirstTooLong ranges ends (length ranges) word i → verdict.Fault (fault Final word i) ≡ verdict_of log order
-verdict_final log order events places entries ranges finals ends word i c f = verdict_last log order events places entries ranges finals ends (Some (fault Final word i)) c
+pub verdict_final : (log : Log) (order events : List Event) (places : List ℕ) (entries : List Placed) (ranges : List LiveRange) (last_tags : List (Option ℕ)) (ends : List ℕ) (word i : ℕ) →
+    IsCleared log order events places entries ranges last_tags ends → IsFirstTooLong ranges ends (length ranges) word i → verdict.Fault (fault Final word i) ≡ verdict_of log order
+verdict_final log order events places entries ranges last_tags ends word i c f = verdict_last log order events places entries ranges last_tags ends (Some (fault Final word i)) c
     (λ r e. stage_outliving log order places ranges ends (placed-laid log order events places c.ordered.placed) r e word i f)
 
-pub verdict_fine : (log : Log) (order events : List Event) (places : List ℕ) (entries : List Placed) (ranges : List LiveRange) (finals : List (Option ℕ)) (ends : List ℕ) → IsCleared log order events places entries ranges finals ends →
+pub verdict_fine : (log : Log) (order events : List Event) (places : List ℕ) (entries : List Placed) (ranges : List LiveRange) (last_tags : List (Option ℕ)) (ends : List ℕ) → IsCleared log order events places entries ranges last_tags ends →
     NoneIsTooLong ranges ends (length ranges) → verdict.Respects ≡ verdict_of log order
-verdict_fine log order events places entries ranges finals ends c f = verdict_last log order events places entries ranges finals ends None c
+verdict_fine log order events places entries ranges last_tags ends c f = verdict_last log order events places entries ranges last_tags ends None c
     (λ r e. stage_over log order places ranges ends (placed-laid log order events places c.ordered.placed) r e f)

@@ -1,5 +1,5 @@
 -- The faults of an order of a log's events, and the first of them.
-use Rattle.std.specs.Prelude.{◌≡◌, ℕ, suc, Bool, not, ◌&&◌, cond, eqb, nat_lt, nat_le, Option, Some, None, List, [], ◌∷◌, length, map, take, slice_index_or, position}
+use Rattle.std.specs.Prelude.{◌≡◌, ℕ, suc, Bool, not, ◌&&◌, if◌then◌else◌, ◌==◌, nat_lt, nat_le, Option, Some, None, List, [], ◌∷◌, length, map, take, slice_index_or, position}
 use Rattle.std.specs.List.{list_any, flat_map, enumerate_from, position_or_len, range_with_len}
 use Rattle.std.specs.Option.{option_or, option_map}
 use Rattle.light_base.specs.declared.tag.Event.{Event}
@@ -66,12 +66,12 @@ is_missing order e = nat_le (length order) (place order e)
 
 -- an earlier event of its thread has a greater number
 abbrev pub is_overtaken : List Event → ℕ × Event → Bool
-is_overtaken order (j, e) = list_any (λ (d : Event). eqb d.thread e.thread && nat_lt e.step d.step) (take j order)
+is_overtaken order (j, e) = list_any (λ (d : Event). (d.thread == e.thread) && nat_lt e.step d.step) (take j order)
 
 -- the last place at which an event of the thread stands
 abbrev pub last_place : ℕ → List Event → ℕ
 last_place thread [] = 0
-last_place thread (e ∷ events) = cond (list_any (λ (d : Event). eqb d.thread thread) events) (suc (last_place thread events)) 0
+last_place thread (e ∷ events) = if list_any (λ (d : Event). d.thread == thread) events then suc (last_place thread events) else 0
 
 -- the nearest earlier position of the thread of the event at position j
 abbrev pub place_before : List Event → ℕ → ℕ
@@ -84,11 +84,13 @@ is_read_early order x = nat_le (first_rank order x) (source_rank order x)
 -- the entries are of one word and have different sources, and the last of each stands after the source of the other
 abbrev pub are_crossed : List Event → ℕ × Entry → ℕ × Entry → Bool
 are_crossed order x y =
-    eqb x.1.word y.1.word && not (same_tag x.1.source y.1.source) && nat_lt (source_rank order y) (last_rank order x) && nat_lt (source_rank order x) (last_rank order y)
+    (x.1.word == y.1.word) && not (same_tag x.1.source y.1.source) &&
+    nat_lt (source_rank order y) (last_rank order x) && nat_lt (source_rank order x) (last_rank order y)
 
 -- the entry is of the word and has another source than the word's last tag, and its last stands after that
 abbrev pub outlives : Log → List Event → ℕ → ℕ × Entry → Bool
-outlives log order word x = eqb x.1.word word && not (same_tag x.1.source (last_tag log word)) && nat_lt (rank_of order (last_tag log word)) (last_rank order x)
+outlives log order word x =
+    (x.1.word == word) && not (same_tag x.1.source (last_tag log word)) && nat_lt (rank_of order (last_tag log word)) (last_rank order x)
 
 -- the first position that holds no event of the log
 abbrev pub first_unknown : Log → List Event → Option OrderFault
@@ -120,7 +122,7 @@ first_crossed log order = option_map (λ i. fault Between i (position_or_len (ar
 -- the first word with an entry that outlives it, and the first such entry
 abbrev pub first_outliving : Log → List Event → Option OrderFault
 first_outliving log order = option_map (λ word. fault Final word (position_or_len (outlives log order word) (entries_of log)))
-    (position (λ word. list_any (outlives log order word) (entries_of log)) (range_with_len 0 (length log.lasts)))
+    (position (λ word. list_any (outlives log order word) (entries_of log)) (range_with_len 0 (length log.last_tags)))
 
 -- the first fault: of the first kind of which there is one
 unfoldable pub first_fault : Log → List Event → Option OrderFault

@@ -7,10 +7,10 @@ ghost use Rattle.schedule_check.specs.Placed.{IsPlaced};
 
 use crate::events::positions_of;
 use crate::faults::{OrderFault, OrderKind, Verdict};
-use crate::finals::first_too_long;
+use crate::last_tags::first_too_long;
 use crate::ranks::{ends_of, first_untimely, ranges_of};
 use crate::turns::first_overtaken;
-use constraints::{list_events, place_entries, place_finals};
+use constraints::{list_events, place_entries, place_last_tags};
 use dep_log::RunLog;
 use light_base::{Event, Memory};
 use order_judge::{Placing, first_overlap, places_of};
@@ -46,8 +46,8 @@ fn check_placed(
     if let Some((i, j)) = first_overlap(alloc, &ranges)? {
         return Ok(fault(OrderKind::Between, i, j));
     }
-    let finals = place_finals(alloc, log, events)?;
-    let ends = ends_of(alloc, places, &finals)?;
+    let last_tags = place_last_tags(alloc, log, events)?;
+    let ends = ends_of(alloc, places, &last_tags)?;
     if let Some((word, i)) = first_too_long(&ranges, &ends) {
         return Ok(fault(OrderKind::Final, word, i));
     }

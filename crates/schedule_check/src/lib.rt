@@ -5,7 +5,7 @@ mod checking;
 mod events;
 pub mod examples;
 mod faults;
-mod finals;
+mod last_tags;
 mod ranks;
 mod turns;
 

@@ -54,14 +54,14 @@ pub(crate) fn ranges_of(
 pub(crate) fn ends_of(
     alloc: Global,
     places: &[u32],
-    finals: &[Option<u32>],
+    last_tags: &[Option<u32>],
 ) -> Result<Vec<u32>, Memory>
     requires small { All (λ place. place + 1 < 2 ^ 32) places.now }
-    requires within { All (λ final. IfSome final (λ p. p < length places.now)) finals.now }
-    ensures { IfOk result (λ ends. ends.items ≡ map (rank_in places.now) finals.now) }
+    requires within { All (λ final. IfSome final (λ p. p < length places.now)) last_tags.now }
+    ensures { IfOk result (λ ends. ends.items ≡ map (rank_in places.now) last_tags.now) }
 {
-    let mut ends = Vec::with_capacity(alloc, finals.len())?;
-    for last in finals {
+    let mut ends = Vec::with_capacity(alloc, last_tags.len())?;
+    for last in last_tags {
         ends.push(rank(places, *last))?;
     }
     Ok(ends)

@@ -62,11 +62,11 @@ fn nodes_before(
         }
     }
     let befores = Rows::of(alloc, chains.nodes(), &firsts)?;
-    let mut lasts = Vec::with_capacity(alloc, firsts.len())?;
+    let mut last_reads = Vec::with_capacity(alloc, firsts.len())?;
     for node in 0..chains.nodes() {
-        put_lasts(&mut lasts, chains, node, befores.row(node))?;
+        put_last_reads(&mut last_reads, chains, node, befores.row(node))?;
     }
-    Rows::of(alloc, chains.nodes(), &lasts)
+    Rows::of(alloc, chains.nodes(), &last_reads)
 }
 
 // Whether the edge leads to another chain, and its start to no earlier node of that one.
@@ -79,7 +79,7 @@ fn is_first(chains: &Chains, clocks: &[Clock], edge: &Edge) -> bool {
 }
 
 // Appends for each chain the last of these nodes, which come before the node.
-fn put_lasts(
+fn put_last_reads(
     pairs: &mut Vec<(u32, u32)>,
     chains: &Chains,
     node: u32,
@@ -88,15 +88,15 @@ fn put_lasts(
     if befores.is_empty() {
         return Ok(());
     }
-    let mut lasts: [Option<u32>; CHAINS] = [None; CHAINS];
+    let mut last_reads: [Option<u32>; CHAINS] = [None; CHAINS];
     for before in befores {
         let chain = chains.chain_of(*before);
-        let latest = lasts[chain];
+        let latest = last_reads[chain];
         if !latest.is_some_and(|last| last > *before) {
-            lasts[chain] = Some(*before);
+            last_reads[chain] = Some(*before);
         }
     }
-    for last in &lasts {
+    for last in &last_reads {
         if let Some(before) = last {
             pairs.push((node, *before))?;
         }

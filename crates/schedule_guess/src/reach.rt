@@ -122,7 +122,7 @@ impl Reach {
 
     // The last reads of a writer stand before this node, or are it; `Stuck` where that closes a cycle.
     fn end_before(&mut self, shape: &Shape, writer: u32, node: u32) -> Result<(), Stop> {
-        for last in shape.writers.lasts(writer) {
+        for last in shape.writers.last_reads(writer) {
             self.link(shape, *last, node)?;
         }
         Ok(())

@@ -27,7 +27,7 @@ pub struct Writers {
     writers: Vec<Writer>,
     firsts: Vec<Clock>,
     at: Rows<Writer>,
-    lasts: Rows<u32>,
+    last_reads: Rows<u32>,
     reads: Rows<Read>,
 }
 
@@ -41,13 +41,13 @@ impl Writers {
         let sorted = by_source(alloc, chains.nodes(), words, reads)?;
         let Listing {
             mut writers,
-            lasts,
+            last_reads,
             count,
         } = Listing::of(alloc, sorted.items())?;
         Ok(Writers {
             firsts: follow_on(alloc, chains, words, &mut writers)?,
             at: at_nodes(alloc, chains.nodes(), &writers)?,
-            lasts: Rows::of(alloc, count, &lasts)?,
+            last_reads: Rows::of(alloc, count, &last_reads)?,
             reads: by_last(alloc, chains, words, reads)?,
             writers,
         })
@@ -69,8 +69,8 @@ impl Writers {
     }
 
     /// The last reads of what the writer with this number wrote, as nodes.
-    pub fn lasts(&self, number: u32) -> &[u32] {
-        self.lasts.row(number)
+    pub fn last_reads(&self, number: u32) -> &[u32] {
+        self.last_reads.row(number)
     }
 
     /// The reads of a word whose last one is in this chain, by that one.
@@ -139,7 +139,7 @@ fn by_last(
 #[derive(Drop)]
 struct Listing {
     writers: Vec<Writer>,
-    lasts: Vec<(u32, u32)>,
+    last_reads: Vec<(u32, u32)>,
     count: u32,
 }
 
@@ -148,7 +148,7 @@ impl Listing {
     fn of(alloc: Global, reads: &[Read]) -> Result<Listing, AllocError> {
         let mut listing = Listing {
             writers: Vec::new(alloc),
-            lasts: Vec::with_capacity(alloc, reads.len())?,
+            last_reads: Vec::with_capacity(alloc, reads.len())?,
             count: 0,
         };
         for read in reads {
@@ -176,7 +176,8 @@ impl Listing {
             })?;
             self.count = self.count.wrapping_add(1);
         }
-        self.lasts.push((self.count.wrapping_sub(1), read.last))?;
+        self.last_reads
+            .push((self.count.wrapping_sub(1), read.last))?;
         Ok(())
     }
 }

@@ -1,5 +1,6 @@
 -- What contracts say of hands and their words.
-use Rattle.std.specs.Prelude.{◌≡◌, ◌≢◌, ℕ, ◌-◌, ◌<◌, ◌≤◌, Option, Some, List, [], ◌∷◌, ◌++◌, slice_get, All, Contains}
+use Rattle.std.specs.Prelude.{◌≡◌, ◌≢◌, ℕ, ◌+◌, ◌-◌, ◌<◌, ◌≤◌, Option, Some, List, [], ◌∷◌, ◌++◌, slice_get, length, All, Contains}
+use Rattle.light_base.specs.Tags.{step_end}
 use Rattle.light_base.specs.declared.tag.Cell.{Cell}
 use Rattle.replay_model.specs.declared.Want.{Want}
 use Rattle.replay_model.specs.Steps.{initial_cells}
@@ -18,9 +19,14 @@ IsOf words hand = hand.words ≡ words
 abbrev pub new_hand : SharedWords → ℕ → Progress
 new_hand words thread = record { words = words; thread = thread; steps = [] }
 
+-- the next step has a number that a tag can name
+abbrev pub HasStepLeft : Progress → Type 0
+HasStepLeft hand = length hand.steps + 1 < step_end
+
 -- the hand has taken one step more
 abbrev pub Takes : Progress → Want → Option Cell → Progress → Type 0
-Takes before want found after = after ≡ record { words = before.words; thread = before.thread; steps = before.steps ++ record { want = want; found = found } ∷ [] }
+Takes before want found after =
+    after ≡ record { words = before.words; thread = before.thread; steps = before.steps ++ record { want = want; found = found } ∷ [] }
 
 -- the hand's list is its thread's part of some list of steps that can come from the initial cells on
 abbrev pub IsPartOfAll : Progress → Type 0

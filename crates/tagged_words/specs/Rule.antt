@@ -4,7 +4,7 @@ use mathlib.Core.Option.{some}
 use lib.ListN.{get_elem?}
 use Rattle.atomic_table.specs.Table.{State, Me, Step as TableStep}
 use Rattle.atomic_table.specs.Seated.{TableId}
-use Rattle.light_base.specs.Tags.{IsTag}
+use Rattle.light_base.specs.Tags.{IsTag, step_end}
 use Rattle.light_base.specs.Cells.{packed, unpacked}
 use Rattle.light_base.specs.declared.tag.Cell.{Cell}
 use Rattle.replay_model.specs.declared.Want.{Want}
@@ -19,7 +19,7 @@ FitsPart list holder id p = (holder p.thread ≡ id) × (part p.thread list ≡ 
 
 -- a step of one of the threads, with a number that a tag can name and a value of 32 bits
 abbrev pub FitsIn : Start → WordStep → Type 0
-FitsIn start e = (e.thread < start.threads) × (e.number < 2 ^ 28) × IfSome (wrote e.want e.found) (λ v. v < 2 ^ 32)
+FitsIn start e = (e.thread < start.threads) × (e.number < step_end) × IfSome (wrote e.want e.found) (λ v. v < 2 ^ 32)
 
 -- the list leads from the initial cells to those that the words hold, and each seat knows its part of it
 pub record IsKept (start : Start) (s : State (Unit {0}) View) (list : List WordStep) (cells : List Cell) (holder : ℕ → ℕ) : Type 0 where
@@ -60,6 +60,10 @@ own_thread (p ∷ ps) = p.thread
 abbrev pub own_steps : List Part → List Step
 own_steps [] = []
 own_steps (p ∷ ps) = p.steps
+
+-- what a thread did at the words of a table, as its seat there knows
+abbrev pub progress_of : TableId → Knows → ℕ → Progress
+progress_of table me thread = record { words = record { table = table; start = me.0.start }; thread = thread; steps = own_steps me.0.parts }
 
 -- the steps are the thread's part of some list of steps that can come from the start on
 abbrev pub IsPart : Start → ℕ → List Step → Type 0

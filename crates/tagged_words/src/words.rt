@@ -2,6 +2,7 @@
 ghost use Rattle.std.specs.Prelude.{◌≡◌, ◌+◌, ◌/◌, ◌%◌, ◌^◌, ◌<◌, Some, None, length};
 ghost use Rattle.light_base.specs.Tags.{IsTag, writer_of};
 ghost use Rattle.replay_model.specs.declared.Want.TheVariants.{Load, Store, Swap};
+ghost use Rattle.tagged_words.specs.Hands.{HasStepLeft};
 
 use crate::rule::{Knowledge, Loads, OneList, Origin};
 use atomic_table::{Seat, Table};
@@ -44,9 +45,9 @@ impl Model for Hand {
 
     ghost Value = { Progress };
 
-    ghost use Rattle.tagged_words.specs.Rule.{IsSeated, own_steps};
+    ghost use Rattle.tagged_words.specs.Rule.{IsSeated, progress_of};
 
-    ghost view = { λ h. record { words = record { table = h.seat.table_id; start = h.seat.me.0.start }; thread = h.thread; steps = own_steps h.seat.me.0.parts } };
+    ghost view = { λ h. progress_of h.seat.table_id h.seat.me h.thread };
 
     ghost invariant = { λ h. IsSeated h.seat.me h.thread h.steps };
 }
@@ -94,7 +95,7 @@ impl Hand {
 
     // The number of the cell that the next step writes.
     fn next_number(&self, value: u32) -> u64
-        requires { length self.now.steps + 1 < 2 ^ 28 }
+        requires { HasStepLeft self.now }
         ensures tag { IsTag (result % 2 ^ 32) }
         ensures by { writer_of (result % 2 ^ 32) ≡ Some record { thread = self.now.thread; step = length self.now.steps + 1 } }
         ensures value { result / 2 ^ 32 ≡ value }
@@ -115,7 +116,7 @@ impl Words {
     #[tactic(auto, using(crate::proofs::Seats::last_step))]
     pub fn load(&self, hand: &mut Hand, word: u16) -> (Cell, Seen)
         requires own { IsOf self.now hand.old }
-        requires room { length hand.old.steps + 1 < 2 ^ 28 }
+        requires room { HasStepLeft hand.old }
         requires inside { word < length self.now.start.initial }
         ensures step { Takes hand.old (Load word) (Some result.0) hand.new }
         ensures seen { result.1 ≡ record { step = length hand.new.steps; word = word; cell = result.0 } }
@@ -143,7 +144,7 @@ impl Words {
     /// Writes the value with the tag of this step.
     pub fn store(&self, hand: &mut Hand, word: u16, value: u32)
         requires own { IsOf self.now hand.old }
-        requires room { length hand.old.steps + 1 < 2 ^ 28 }
+        requires room { HasStepLeft hand.old }
         requires inside { word < length self.now.start.initial }
         ensures step { Takes hand.old (Store word value) None hand.new }
         ensures own { IsOf self.now hand.new }
@@ -158,7 +159,7 @@ impl Words {
     /// Writes the value with the tag of this step, and gives the cell that stood there before.
     pub fn swap(&self, hand: &mut Hand, word: u16, value: u32) -> Cell
         requires own { IsOf self.now hand.old }
-        requires room { length hand.old.steps + 1 < 2 ^ 28 }
+        requires room { HasStepLeft hand.old }
         requires inside { word < length self.now.start.initial }
         ensures step { Takes hand.old (Swap word value) (Some result) hand.new }
         ensures own { IsOf self.now hand.new }
@@ -174,7 +175,7 @@ impl Words {
     /// is where it still has the cell that was seen.
     pub fn cond(&self, hand: &mut Hand, seen: &Seen, value: u32) -> Cond
         requires own { IsOf self.now hand.old }
-        requires room { length hand.old.steps + 1 < 2 ^ 28 }
+        requires room { HasStepLeft hand.old }
         requires inside { seen.now.word < length self.now.start.initial }
         requires seen { IsSeenBy hand.old seen.now }
         ensures step { CondGives hand.old seen.now value result hand.new }
@@ -185,7 +186,7 @@ impl Words {
     {
         let old = pack(seen.cell);
         let new = hand.next_number(value);
-        let found = self.exchange_number(hand, seen.word, old, new);
+        let found = self.compare_exchange_number(hand, seen.word, old, new);
         if found == old {
             Cond::Won
         } else {

@@ -4,7 +4,7 @@ ghost use Rattle.std.specs.Prelude.{◌≡◌, ◌+◌, ◌/◌, ◌%◌, ◌^�
 ghost use Rattle.light_base.specs.Tags.{IsTag, writer_of};
 ghost use Rattle.light_base.specs.Cells.{unpacked};
 ghost use Rattle.replay_model.specs.declared.Want.TheVariants.{Load, Store, Swap, Cond};
-ghost use Rattle.tagged_words.specs.Hands.{IsOf, Takes, IsPartOfAll};
+ghost use Rattle.tagged_words.specs.Hands.{HasStepLeft, IsOf, Takes, IsPartOfAll};
 
 use crate::rule::{Conds, Stores, Swaps};
 use crate::words::{Hand, Words};
@@ -12,7 +12,7 @@ use crate::words::{Hand, Words};
 impl Words {
     pub(crate) fn store_number(&self, hand: &mut Hand, word: u16, new: u64)
         requires own { IsOf self.now hand.old }
-        requires room { length hand.old.steps + 1 < 2 ^ 28 }
+        requires room { HasStepLeft hand.old }
         requires inside { word < length self.now.start.initial }
         requires tag { IsTag (new % 2 ^ 32) }
         requires by { writer_of (new % 2 ^ 32) ≡ Some record { thread = hand.old.thread; step = length hand.old.steps + 1 } }
@@ -29,7 +29,7 @@ impl Words {
     // The number that stood there before.
     pub(crate) fn swap_number(&self, hand: &mut Hand, word: u16, new: u64) -> u64
         requires own { IsOf self.now hand.old }
-        requires room { length hand.old.steps + 1 < 2 ^ 28 }
+        requires room { HasStepLeft hand.old }
         requires inside { word < length self.now.start.initial }
         requires tag { IsTag (new % 2 ^ 32) }
         requires by { writer_of (new % 2 ^ 32) ≡ Some record { thread = hand.old.thread; step = length hand.old.steps + 1 } }
@@ -48,9 +48,15 @@ impl Words {
 
     // The number that stood there before. Where its tag is the one that a load of this hand saw, it is the number of the
     // cell that the load saw, and has become `new`.
-    pub(crate) fn exchange_number(&self, hand: &mut Hand, word: u16, old: u64, new: u64) -> u64
+    pub(crate) fn compare_exchange_number(
+        &self,
+        hand: &mut Hand,
+        word: u16,
+        old: u64,
+        new: u64,
+    ) -> u64
         requires own { IsOf self.now hand.old }
-        requires room { length hand.old.steps + 1 < 2 ^ 28 }
+        requires room { HasStepLeft hand.old }
         requires inside { word < length self.now.start.initial }
         requires old_tag { IsTag (old % 2 ^ 32) }
         requires seen { Contains hand.old.steps record { want = Load word; found = Some (unpacked old) } }

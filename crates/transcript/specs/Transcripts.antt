@@ -1,5 +1,5 @@
 -- The transcript of a run.
-use Rattle.std.specs.Prelude.{ℕ, ◌+◌, ◌==◌, if◌then◌else◌, List, [], ◌∷◌, ◌++◌, codes}
+use Rattle.std.specs.Prelude.{◌≡◌, ℕ, ◌+◌, ◌==◌, if◌then◌else◌, List, [], ◌∷◌, ◌++◌, length, take, codes}
 use Rattle.std.specs.List.{flat_map}
 use Rattle.std.specs.Fmt.{decimal}
 use Rattle.replay_model.specs.declared.End.{End}
@@ -8,6 +8,10 @@ use Rattle.machine.specs.Programs.{ProgramValue, LimitsValue}
 use Rattle.machine.specs.Inputs.{InputsValue}
 use Rattle.machine.specs.Cores.{Report}
 use Rattle.machine.specs.Runs.{world_after, reports_of, values_of}
+
+-- the text begins with the one that it was before
+abbrev pub BeginsWith : List ℕ → List ℕ → Type 0
+BeginsWith text before = take (length before) text ≡ before
 
 abbrev pub newline : List ℕ
 newline = 10 ∷ []
@@ -46,7 +50,7 @@ word_lines w (value ∷ values) = (if value == 0 then [] else word_line w value)
 
 -- the transcript of reports and last values
 unfoldable pub transcript : List Report → List ℕ → List ℕ
-transcript reports finals = thread_lines 0 reports ++ word_lines 0 finals
+transcript reports last_values = thread_lines 0 reports ++ word_lines 0 last_values
 
 -- the transcript of a history of a program with its inputs
 abbrev pub transcript_of : ProgramValue → LimitsValue → InputsValue → List ℕ → List ℕ

@@ -2,6 +2,7 @@
 use dep_log::ThreadLog;
 use light_base::{Event, Memory, SinkFault, StoreFault, Tag};
 use machine::{Inputs, Limits, Program, RunReport};
+use recorder::BrokenGroup;
 
 mod arenas;
 mod graphs;
@@ -9,6 +10,7 @@ mod groups;
 mod growing_logs;
 mod images;
 mod logs;
+mod machines;
 mod numbers;
 mod outside;
 mod programs;
@@ -34,4 +36,6 @@ fn values_cross_threads() {
     is_shared::<SinkFault>();
     is_moved::<RunReport>();
     is_moved::<ThreadLog>();
+    is_moved::<Memory>();
+    is_moved::<BrokenGroup>();
 }

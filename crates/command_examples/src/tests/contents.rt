@@ -11,6 +11,8 @@ pub enum Content {
     Hex(&'static str),
     // So many bytes: the first of these, or these and zeros.
     Sized(&'static str, usize),
+    // These bytes, so many zeros, and these bytes.
+    Wide(&'static str, usize, &'static str),
     // A text, and then so many outputs, which count from 0.
     Counted(&'static str, u32),
     // The schedule of these events, each told as `thread:step`, with a space between two.
@@ -112,6 +114,12 @@ pub fn bytes_of(alloc: Global, content: Content) -> Result<Vec<u8>, AllocError> 
         Content::Sized(digits, len) => {
             let mut bytes = bytes_of_digits(alloc, digits)?;
             bytes.resize(len, 0)?;
+            Ok(bytes)
+        }
+        Content::Wide(head, zeros, tail) => {
+            let mut bytes = bytes_of_digits(alloc, head)?;
+            bytes.resize(bytes.len().saturating_add(zeros), 0)?;
+            bytes.extend_from_slice(&bytes_of_digits(alloc, tail)?)?;
             Ok(bytes)
         }
         Content::Counted(text, count) => {

@@ -4,7 +4,7 @@ use super::inputs::{SEVEN, SEVEN_LOG, SEVEN_TEXT, TAKER};
 use super::logs::OLD_LOG;
 use super::recordings::OWN_WRITE_READ_LOG;
 use super::rows::{DONE, Row, check, holds, words_of};
-use light_base::{MemSink, MemStore};
+use light_base::{MemSink, MemStore, Store};
 use light_top::{OpenGate, Status, light};
 use std::alloc::Global;
 use std::process::Abort;
@@ -149,32 +149,49 @@ fn ended<R: Abort + Threads + Sync>(
     Ok((status, store, out))
 }
 
-// Where a call of the store fails, nothing is printed, and only the file that is saved may have changed.
+// Whether the next call of the store, which the test makes, fails.
+fn fails_next(alloc: Global, store: &mut MemStore, row: &Row) -> bool {
+    let Some((name, _)) = row.files.first() else {
+        return false;
+    };
+    store.load(alloc, name, 1000).is_err()
+}
+
+// Where a call of the store fails, nothing is printed, and only the file that is saved may have changed; where the last call is a
+// save, it has its first half. The call is not made again: the one after it fails too, and is left to the test.
 fn check_call<R: Abort + Threads + Sync>(
     rt: &R,
     alloc: Global,
     row: &Row,
     call: u64,
+    is_last: bool,
 ) -> Result<(), Fail> {
-    let (status, store, out) = ended(rt, alloc, row, &[call], &[])?;
-    assert_eq!(rt;
-        status,
-        Status::StoreFault,
-        "call {} of {}",
-        call,
-        row.words
-    );
+    let (status, mut store, out) = ended(rt, alloc, row, &[call, call.saturating_add(1)], &[])?;
+    assert_eq!(rt; status, Status::StoreFault, "call {call} of {}", row.words);
     assert!(rt; out.taken().is_empty());
     for (name, content) in row.files {
         if !row.after.iter().any(|(saved, _)| *saved == *name) {
             assert!(rt;
                 holds(alloc, &store, name, *content)?,
-                "{} of {}",
-                name,
+                "{name} of {}",
                 row.words
             );
         }
     }
+    for (name, content) in row.after {
+        let bytes = bytes_of(alloc, *content)?;
+        let half = &bytes[..bytes.len() / 2];
+        assert!(rt;
+            !is_last || store.file(name) == Some(half),
+            "{name} of {}",
+            row.words
+        );
+    }
+    assert!(rt;
+        fails_next(alloc, &mut store, row),
+        "after call {call} of {}",
+        row.words
+    );
     Ok(())
 }
 
@@ -209,7 +226,8 @@ pub fn check_faults<R: Abort + Threads + Sync>(
     calls: u64,
 ) -> Result<(), Fail> {
     for call in 0..calls {
-        check_call(rt, alloc, row, call.saturating_add(1))?;
+        let call = call.saturating_add(1);
+        check_call(rt, alloc, row, call, call == calls)?;
     }
     let puts = bytes_of(alloc, row.text)?.len() as u64;
     for put in 0..puts {

@@ -1,5 +1,6 @@
 // `record`: the log that is saved and the transcript that is printed. The digests are those of another program.
 use super::contents::{Content, LOST_UPDATE, OWN_WRITE_READ, SMALLEST, SMALLEST_TEXT, TWO_FLAGS};
+use super::histories::{OTHER_WRITER, OTHER_WRITER_LOG};
 use super::rows::{DONE, Row};
 
 // The log of the smallest program under limits of 10.
@@ -7,6 +8,16 @@ const SMALLEST_LOG_BYTES: &str =
     "4c4c4732 01 0001 03c0797a3fa7c306a00ed5c26b8fc1a0cdcc1dfd5ace36b9d02276973157950b 0000000a 0000000a 0000000a 00 00000000 00000000 00000000 00000000 00000000 00000000";
 
 pub const SMALLEST_LOG: Content = Content::Hex(SMALLEST_LOG_BYTES);
+
+// What is printed of two threads that may take no step.
+pub const NO_STEPS_TEXT: Content = Content::Text(
+    "thread 0 steps-spent steps 0 instr 0/thread 1 steps-spent steps 0 instr 0/",
+);
+
+// What is printed of a compare-exchange between whose steps another thread wrote.
+pub const OTHER_WRITER_TEXT: Content = Content::Text(
+    "thread 0 halted steps 2 instr 5/out 2/out 5/thread 1 halted steps 1 instr 2/word 0 5/",
+);
 
 // The log of a thread that reads what it wrote, under limits of 100: one entry.
 pub const OWN_WRITE_READ_BYTES: &str =
@@ -19,15 +30,21 @@ pub const NO_STEPS_LOG: Content = Content::Hex(
     "4c4c4732 02 0001 cd76f743851e5d628d83f0d36718aea1600063245992e8e8a0cb1134d7692f8d 00000000 00000064 00000064 03 00000000 00000000 00000000 00000000 00000000 03 00000000 00000000 00000000 00000000 00000000 00000000",
 );
 
-// A thread that loads word 4,096, and its log under limits of 100.
-const BAD_ADDRESS: Content = Content::Hex("4c494d31 01 0001 0001 00000000 1101000000001000");
+// 4,096 words. Thread 0 loads word 4,096; thread 1 loads word 0 by an address that wraps round, and puts it out.
+const ADDRESSES: Content = Content::Wide(
+    "4c494d31 02 1000 0001 0003",
+    16_384,
+    "1101000000001000 01010000ffffffff 1102010000000001 1002000000000000",
+);
 
-const BAD_ADDRESS_LOG: Content = Content::Hex(
-    "4c4c4732 01 0001 5173cf25fc875f7359bd441aa99618716c16e676842abd5d8cbe4565bd3f134f 00000064 00000064 00000064 02 00001000 00000000 00000000 00000000 00000000 00000000",
+const ADDRESSES_LOG: Content = Content::Wide(
+    "4c4c4732 02 1000 b441e11db89b22504d5bf2ebfa8d66bea7fe1138d7287efa4342c47de67e49fb 00000064 00000064 00000064 02 00001000 00000000 00000000 00000000 00000000 00 00000000 00000001 00000003 00000001 00000000",
+    16_384,
+    "0000 00000000 00000001 00000001",
 );
 
 // Programs that are recorded.
-pub static RECORDED: [Row; 6] = [
+pub static RECORDED: [Row; 7] = [
     Row {
         words: "record i l 10 10 10",
         files: &[("i", SMALLEST)],
@@ -45,17 +62,17 @@ pub static RECORDED: [Row; 6] = [
     Row {
         words: "record i l 0 100 100",
         files: &[("i", LOST_UPDATE)],
-        text: Content::Text(
-            "thread 0 steps-spent steps 0 instr 0/thread 1 steps-spent steps 0 instr 0/",
-        ),
+        text: NO_STEPS_TEXT,
         after: &[("l", NO_STEPS_LOG)],
         ..DONE
     },
     Row {
         words: "record i l 100 100 100",
-        files: &[("i", BAD_ADDRESS)],
-        text: Content::Text("thread 0 bad-address 4096 steps 0 instr 0/"),
-        after: &[("l", BAD_ADDRESS_LOG)],
+        files: &[("i", ADDRESSES)],
+        text: Content::Text(
+            "thread 0 bad-address 4096 steps 0 instr 0/thread 1 halted steps 1 instr 3/out 0/",
+        ),
+        after: &[("l", ADDRESSES_LOG)],
         ..DONE
     },
     // One worker, on which the threads take turns of one step, and of two.
@@ -73,6 +90,14 @@ pub static RECORDED: [Row; 6] = [
         text: Content::Text(
             "thread 0 halted steps 3 instr 6/thread 1 halted steps 2 instr 4/word 0 1/word 1 1/",
         ),
+        ..DONE
+    },
+    // The compare-exchange is cut between its two steps.
+    Row {
+        words: "record i l 100 100 100 1 1",
+        files: &[("i", OTHER_WRITER)],
+        text: OTHER_WRITER_TEXT,
+        after: &[("l", OTHER_WRITER_LOG)],
         ..DONE
     },
 ];

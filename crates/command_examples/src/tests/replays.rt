@@ -4,15 +4,18 @@ use super::contents::{
     SMALLEST_TEXT, bytes_of,
 };
 use super::histories::{
-    BLIND_STORES, BLIND_STORES_LOG, EXCHANGES, EXCHANGES_LOG, FIVE_THREADS, FIVE_THREADS_LOG,
-    HIDDEN_STORE, HIDDEN_STORE_LOG, INITIAL_VALUE_LOG, LAST_NOBODY_LOG, LAST_READ_LOG,
-    LONGER_ENTRY_LOG, LOST_UPDATE_LOG, MESSAGE_LOG, MORE_THREADS_LOG, MORE_WORDS_LOG,
-    ONE_MORE_STEP_LOG, OTHER_WRITER, OTHER_WRITER_LOG, READ_ITSELF_LOG, ROUND_LOG,
+    BLIND_STORES, BLIND_STORES_LOG, CROSSED, CROSSED_LOG, EXCHANGES, EXCHANGES_LOG, FIVE_THREADS,
+    FIVE_THREADS_LOG, HIDDEN_STORE, HIDDEN_STORE_LOG, INITIAL_VALUE_LOG, LAST_NOBODY_LOG,
+    LAST_READ_LOG, LONGER_ENTRY_LOG, LOST_UPDATE_LOG, MESSAGE_LOG, MORE_THREADS_LOG,
+    MORE_WORDS_LOG, ONE_MORE_STEP_LOG, OTHER_WRITER, OTHER_WRITER_LOG, READ_ITSELF_LOG, ROUND_LOG,
     SEVEN_AND_EIGHT_LOG, TWO_LOADS, TWO_LOADS_LOG,
 };
 use super::inputs::{SEVEN_LOG, SEVEN_TEXT, SEVEN_TO_NINE_LOG, SEVEN_TO_NINE_TEXT, TAKER};
 use super::logs::OLD_LOG;
-use super::recordings::{NO_STEPS_LOG, OWN_WRITE_READ_BYTES, OWN_WRITE_READ_LOG, SMALLEST_LOG};
+use super::recordings::{
+    NO_STEPS_LOG, NO_STEPS_TEXT, OTHER_WRITER_TEXT, OWN_WRITE_READ_BYTES, OWN_WRITE_READ_LOG,
+    SMALLEST_LOG,
+};
 use super::rows::{DONE, Row, call, holds, store_of};
 use std::alloc::{AllocError, Global};
 use std::process::Abort;
@@ -67,20 +70,8 @@ pub static REPLAYED: [(Content, Content, &str, Content); 15] = [
             "thread 0 halted steps 1 instr 2/out 0/thread 1 halted steps 1 instr 2/thread 2 halted steps 1 instr 2/word 0 5/",
         ),
     ),
-    (
-        OTHER_WRITER,
-        OTHER_WRITER_LOG,
-        "0",
-        Content::Text(
-            "thread 0 halted steps 2 instr 5/out 2/out 5/thread 1 halted steps 1 instr 2/word 0 5/",
-        ),
-    ),
-    (
-        LOST_UPDATE,
-        NO_STEPS_LOG,
-        "0",
-        Content::Text("thread 0 steps-spent steps 0 instr 0/thread 1 steps-spent steps 0 instr 0/"),
-    ),
+    (OTHER_WRITER, OTHER_WRITER_LOG, "0", OTHER_WRITER_TEXT),
+    (LOST_UPDATE, NO_STEPS_LOG, "0", NO_STEPS_TEXT),
     (TAKER, SEVEN_LOG, "0", SEVEN_TEXT),
     (TAKER, SEVEN_TO_NINE_LOG, "0", SEVEN_TO_NINE_TEXT),
     // No history has this log, but runs of the threads have it.
@@ -176,7 +167,19 @@ pub static OTHER_PROGRAM: [Row; 4] = [
 
 // What stands in the way: the image is loaded and read before the log. A save that fails leaves the first half; where a put fails
 // the schedule is whole.
-pub static STOPPED: [Row; 18] = [
+pub static STOPPED: [Row; 20] = [
+    // The search meets a dead end with something to go back to, and then one with nothing.
+    Row {
+        files: &[("i", CROSSED), ("l", CROSSED_LOG)],
+        status: "budget spent",
+        ..STAYED
+    },
+    Row {
+        words: "replay i l s 1",
+        files: &[("i", CROSSED), ("l", CROSSED_LOG)],
+        status: "no schedule",
+        ..STAYED
+    },
     Row {
         files: &[("i", OWN_WRITE_READ), ("l", LAST_NOBODY_LOG)],
         status: "no schedule",

@@ -2,7 +2,7 @@
 use super::contents::{Content, bytes_of};
 use super::told::told;
 use light_base::{MemSink, MemStore};
-use light_top::{OpenGate, light};
+use light_top::{Gate, OpenGate, light};
 use std::alloc::{AllocError, Global};
 use std::process::Abort;
 use std::test::Fail;
@@ -63,18 +63,29 @@ pub fn store_of(alloc: Global, files: &[(&'static str, Content)]) -> Result<MemS
     Ok(store)
 }
 
-// How the command of a line ends, as `told` says it, and what it prints.
+// How the command of a line ends under a gate, as `told` says it, and what it prints.
+pub fn call_under<R: Abort + Threads + Sync, G: Gate>(
+    rt: &R,
+    alloc: Global,
+    store: &mut MemStore,
+    line: &str,
+    gate: &G,
+) -> Result<(String, Vec<u8>), Fail> {
+    let words = words_of(alloc, line)?;
+    let mut out = MemSink::new(alloc, 5, Vec::new(alloc));
+    let status = light(rt, alloc, &words, store, &mut out, gate);
+    let text = Vec::from_slice(alloc, out.taken())?;
+    Ok((told(alloc, &status)?, text))
+}
+
+// The same under a gate that holds nothing.
 pub fn call<R: Abort + Threads + Sync>(
     rt: &R,
     alloc: Global,
     store: &mut MemStore,
     line: &str,
 ) -> Result<(String, Vec<u8>), Fail> {
-    let words = words_of(alloc, line)?;
-    let mut out = MemSink::new(alloc, 5, Vec::new(alloc));
-    let status = light(rt, alloc, &words, store, &mut out, &OpenGate);
-    let text = Vec::from_slice(alloc, out.taken())?;
-    Ok((told(alloc, &status)?, text))
+    call_under(rt, alloc, store, line, &OpenGate)
 }
 
 // Runs a row's command, and looks at what it left. A put takes at most five bytes.

@@ -1,7 +1,8 @@
 // `run`: images that are played, and those that are not.
 use super::contents::{
-    Content, INITIAL_VALUE, OWN_WRITE_READ, SMALLEST, SMALLEST_BYTES, SMALLEST_TEXT,
+    Content, INITIAL_VALUE, LOST_UPDATE, OWN_WRITE_READ, SMALLEST, SMALLEST_BYTES, SMALLEST_TEXT,
 };
+use super::recordings::NO_STEPS_TEXT;
 use super::rows::{DONE, Row};
 
 // A thread that loads and jumps back.
@@ -10,7 +11,7 @@ const LOADS: Content = Content::Hex(
 );
 
 // Images that are played: one by the greatest limits, under a name of any kind, and one until a million steps are spent.
-pub static PLAYED: [Row; 5] = [
+pub static PLAYED: [Row; 6] = [
     Row {
         words: "run i 10 10 10",
         files: &[("i", SMALLEST)],
@@ -29,6 +30,12 @@ pub static PLAYED: [Row; 5] = [
         text: Content::Text(
             "thread 0 halted steps 1 instr 2/out 5/thread 1 halted steps 1 instr 2/word 0 9/",
         ),
+        ..DONE
+    },
+    Row {
+        words: "run i 0 100 100",
+        files: &[("i", LOST_UPDATE)],
+        text: NO_STEPS_TEXT,
         ..DONE
     },
     Row {

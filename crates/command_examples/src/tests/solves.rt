@@ -1,7 +1,7 @@
 // `solve`: the order that is saved respects the log, as `check` says; logs that no order respects; and what stands in the way.
 use super::contents::Content;
 use super::histories::{
-    BLIND_STORES_LOG, BOTH_LATE_LOG, DEAD_END_LOG, EXCHANGES_LOG, FIRST_EXCHANGE_LOG,
+    BLIND_STORES_LOG, BOTH_LATE_LOG, CROSSED_LOG, DEAD_END_LOG, EXCHANGES_LOG, FIRST_EXCHANGE_LOG,
     FIVE_THREADS_LOG, HIDDEN_STORE_LOG, INITIAL_FIRST_LOG, INITIAL_SECOND_LOG, INITIAL_VALUE_LOG,
     LAST_EXCHANGE_LOG, LAST_NOBODY_LOG, LOST_UPDATE_LOG, MESSAGE_LOG, NEVER_OVER_LOG,
     OTHER_WRITER_LOG, OWN_SOURCE_LOG, READ_ITSELF_LOG, REPLACED_LOG, ROUND_LOG, TWO_DEAD_ENDS_LOG,
@@ -22,10 +22,10 @@ const FOUND_OR_SPENT: &[&str] = &["", "budget spent"];
 
 const NONE: &[&str] = &["no schedule"];
 
-const NONE_OR_SPENT: &[&str] = &["no schedule", "budget spent"];
+const SPENT: &[&str] = &["budget spent"];
 
 // A log, the number of its events, the budget, and the right answers.
-pub static SOLVED: [(Content, u32, &str, &[&str]); 40] = [
+pub static SOLVED: [(Content, u32, &str, &[&str]); 43] = [
     // The plain search finds an order with no dead end.
     (SMALLEST_LOG, 0, "0", FOUND),
     (NO_STEPS_LOG, 0, "0", FOUND),
@@ -64,13 +64,18 @@ pub static SOLVED: [(Content, u32, &str, &[&str]); 40] = [
     // Nobody wrote last, and still somebody read a write.
     (NEVER_OVER_LOG, 2, "0", NONE),
     (LAST_NOBODY_LOG, 2, "0", NONE),
-    // Whichever write comes first, there is a circle: one dead end, and two.
+    // Whichever write comes first, there is a circle. The plain search has one dead end, or two; there is nothing to go back to,
+    // so no budget is needed.
     (DEAD_END_LOG, 4, "4294967295", NONE),
     (DEAD_END_LOG, 4, "1", NONE),
-    (DEAD_END_LOG, 4, "0", NONE_OR_SPENT),
+    (DEAD_END_LOG, 4, "0", NONE),
     (TWO_DEAD_ENDS_LOG, 6, "2", NONE),
-    (TWO_DEAD_ENDS_LOG, 6, "1", NONE_OR_SPENT),
-    (TWO_DEAD_ENDS_LOG, 6, "0", NONE_OR_SPENT),
+    (TWO_DEAD_ENDS_LOG, 6, "1", NONE),
+    (TWO_DEAD_ENDS_LOG, 6, "0", NONE),
+    // A choice is tried, and leads to a dead end; the other one leads to one with nothing to go back to.
+    (CROSSED_LOG, 18, "0", SPENT),
+    (CROSSED_LOG, 18, "1", NONE),
+    (CROSSED_LOG, 18, "4294967295", NONE),
 ];
 
 const OWN_ORDER_BYTES: &str = "4c534331 00000002 10000001 10000002";

@@ -1,6 +1,6 @@
 // The arena of 7 beside a text of it, its first move written out, and what its summary says.
 use super::programs::{lines_of, program_of};
-use arena_samples::{arena, summary};
+use arena_samples::{LOST_UPDATE, MESSAGE_PASSING, STORE_BUFFER, TWO_FLAGS, arena, summary};
 use assembler::list;
 use light_base::put_decimal;
 use machine::{Inputs, Limits, Program};
@@ -105,5 +105,33 @@ fn the_points_of_an_arena_are_summed(rt: HostRuntime) -> Result<(), Fail> {
     assert_eq!(rt; values.len(), 24);
     let text = summary(alloc, 7, &values)?;
     assert_eq!(rt; text.as_slice(), lines_of(alloc, SUMMARY)?.as_slice());
+    Ok(())
+}
+
+// The samples, with what their texts are. A slash stands for the end of a line.
+static SAMPLES: [(&str, &str); 4] = [
+    (
+        STORE_BUFFER,
+        ".words 2/.thread/set r1 1/store r1 r0 0/load r2 r0 1/out r2/.thread/set r1 1/store r1 r0 1/load r2 r0 0/out r2/",
+    ),
+    (
+        MESSAGE_PASSING,
+        ".words 2/.thread/set r1 42/store r1 r0 0/set r2 1/store r2 r0 1/.thread/wait: load r1 r0 1/jeq r1 r0 wait/load r2 r0 0/out r2/",
+    ),
+    (
+        LOST_UPDATE,
+        ".words 1/.thread/load r1 r0 0/addi r1 r1 1/store r1 r0 0/out r1/.thread/load r1 r0 0/addi r1 r1 1/store r1 r0 0/out r1/",
+    ),
+    (
+        TWO_FLAGS,
+        ".words 2/.thread/set r1 1/store r1 r0 0/wait: load r2 r0 1/jeq r2 r0 wait/.thread/set r1 1/store r1 r0 1/wait: load r2 r0 0/jeq r2 r0 wait/",
+    ),
+];
+
+#[test]
+fn samples_have_their_texts(rt: HostRuntime) -> Result<(), Fail> {
+    for (sample, text) in &SAMPLES {
+        assert_eq!(rt; sample.as_bytes(), lines_of(rt.alloc(), text)?.as_slice());
+    }
     Ok(())
 }

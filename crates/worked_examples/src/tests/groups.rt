@@ -1,9 +1,10 @@
 // Threads in groups. On one worker their turns are fully determined, and are those of a history by turns.
 use super::programs::program_of;
-use super::recordings::{self, EXCHANGE_CHAIN, OTHER_WRITER, ROWS, Row, TWO_FLAGS, check};
-use super::thread_recordings::HoldingGate;
-use machine::{End, Inputs, Limits};
-use recorder::{Finished, Gate, OpenGate, Recorded, record_turns, record_workers, run_group};
+use super::recordings::{self, OTHER_WRITER, ROWS, Row, TWO_FLAGS, check};
+use machine::{Inputs, Limits};
+use recorder::{
+    BrokenGroup, Finished, OpenGate, Recorded, record_turns, record_workers, run_group,
+};
 use std::alloc::Global;
 use std::process::Abort;
 use std::test::Fail;
@@ -18,49 +19,31 @@ const TWO_FLAGS_BY_TWO: Row = Row {
     ..TWO_FLAGS
 };
 
-fn recorded<R: Threads + Sync + Abort, G: Gate>(
+// What one worker records, on which the threads take so many steps at a time.
+fn recorded<R: Threads + Sync + Abort>(
     rt: &R,
     alloc: Global,
     row: &Row,
-    workers: u8,
     slice: u32,
-    gate: &G,
 ) -> Result<Recorded, Fail> {
     let program = program_of(rt, alloc, row.program)?;
     let (steps, instr, entries) = row.limits;
     let limits = Limits::new(steps, instr, entries).ok_or("these are limits")?;
     let inputs = Inputs::none(alloc, program.threads_count() as u8)?;
-    assert!(rt; 0 < workers && workers < 16 && 0 < slice);
-    Ok(record_workers(rt, alloc, &program, &limits, &inputs, workers, slice, gate)?)
+    assert!(rt; 0 < slice);
+    Ok(record_workers(rt, alloc, &program, &limits, &inputs, 1, slice, &OpenGate)?)
 }
 
 #[test]
 fn one_worker_takes_turns(rt: HostRuntime) -> Result<(), Fail> {
     let alloc = rt.alloc();
-    let by_one = recorded(&rt, alloc, &TWO_FLAGS, 1, 1, &OpenGate)?;
+    let by_one = recorded(&rt, alloc, &TWO_FLAGS, 1)?;
     check(&rt, alloc, &TWO_FLAGS, &by_one)?;
-    let by_two = recorded(&rt, alloc, &TWO_FLAGS_BY_TWO, 1, 2, &OpenGate)?;
+    let by_two = recorded(&rt, alloc, &TWO_FLAGS_BY_TWO, 2)?;
     check(&rt, alloc, &TWO_FLAGS_BY_TWO, &by_two)?;
     // A compare-exchange is cut between its two steps.
-    let cut = recorded(&rt, alloc, &OTHER_WRITER, 1, 1, &OpenGate)?;
+    let cut = recorded(&rt, alloc, &OTHER_WRITER, 1)?;
     check(&rt, alloc, &OTHER_WRITER, &cut)
-}
-
-fn has_ended(recorded: &Recorded) -> bool {
-    recorded.reports().iter().all(|report| {
-        report.end() == End::Halted && report.steps() == 1 && report.instr() == 3
-    })
-}
-
-// Three threads on two workers: each worker's first step waits for the other one's.
-#[test]
-fn two_workers_stand_at_the_gate(rt: HostRuntime) -> Result<(), Fail> {
-    let gate = HoldingGate::new([((0, 1), (1, 1)), ((1, 1), (0, 1))]);
-    let recorded = recorded(&rt, rt.alloc(), &EXCHANGE_CHAIN, 2, 1, &gate)?;
-    assert_eq!(rt; recorded.reports().len(), 3);
-    assert!(rt; has_ended(&recorded));
-    assert_eq!(rt; gate.in_vain(), 0);
-    Ok(())
 }
 
 // Rounds in which each thread takes so many steps, as many as a thread may take steps.
@@ -98,8 +81,8 @@ fn agree(rt: &impl Abort, alloc: Global, one: &Recorded, other: &Recorded) -> Re
         recordings::entries_of(alloc, other)?.as_str()
     );
     assert_eq!(rt;
-        recordings::lasts_of(alloc, one)?.as_str(),
-        recordings::lasts_of(alloc, other)?.as_str()
+        recordings::last_tags_of(alloc, one)?.as_str(),
+        recordings::last_tags_of(alloc, other)?.as_str()
     );
     Ok(())
 }
@@ -109,7 +92,7 @@ fn one_worker_plays_a_history_by_turns(rt: HostRuntime) -> Result<(), Fail> {
     let alloc = rt.alloc();
     for row in &ROWS {
         for slice in 1..8 {
-            let recorded = recorded(&rt, alloc, row, 1, slice, &OpenGate)?;
+            let recorded = recorded(&rt, alloc, row, slice)?;
             let expected = by_turns(&rt, alloc, row, slice)?;
             agree(&rt, alloc, &recorded, &expected)?;
         }
@@ -126,6 +109,13 @@ fn is_told(finished: &Finished, output: &[u32], steps: u32, taken: &[u32]) -> bo
     finished.report.output() == output
         && finished.hand.steps() == steps
         && finished.log.taken() == taken
+}
+
+// Want of memory gives all hands back, so many.
+fn no_memory(rt: &impl Abort, broken: BrokenGroup, hands: usize) -> Result<(), Fail> {
+    assert_eq!(rt; broken.hands().len(), hands);
+    assert_eq!(rt; broken.into_parts().len(), hands);
+    Err("no memory".into())
 }
 
 // What comes of a group stands in the order of its hands. The second thread's step falls between the two of the first.
@@ -148,7 +138,7 @@ fn a_group_takes_turns(rt: HostRuntime) -> Result<(), Fail> {
             assert!(rt; is_told(first, &[9], 2, &[]) && is_told(second, &[0], 1, &[9]));
             Ok(())
         }
-        Err(_) => Err("no memory".into()),
+        Err(broken) => no_memory(&rt, broken, 2),
     }
 }
 
@@ -168,6 +158,6 @@ fn no_hands_are_a_group(rt: HostRuntime) -> Result<(), Fail> {
             assert!(rt; all.is_empty());
             Ok(())
         }
-        Err(_) => Err("no memory".into()),
+        Err(broken) => no_memory(&rt, broken, 0),
     }
 }

@@ -4,9 +4,9 @@ ghost use Rattle.std.specs.List.{list_any};
 ghost use Rattle.replay_model.specs.MoreReads.{is_entry_for};
 
 use dep_log::{DepLog, Entry};
-use history::cells::same_tag;
 use light_base::Tag;
 use machine::End;
+use running_thread::cells::same_tag;
 use std::alloc::{AllocError, Global};
 use std::process::Abort;
 use std::test::Fail;

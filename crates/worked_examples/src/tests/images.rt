@@ -54,6 +54,14 @@ fn images_are_read_and_written_back(rt: HostRuntime) -> Result<(), Fail> {
             assert_eq!(rt; program.threads(thread).len(), *len);
         }
         assert_eq!(rt; write_image(alloc, &program)?.as_slice(), *image);
+        let (values, codes) = program.into_parts();
+        assert_eq!(rt; values.as_slice(), *words);
+        assert!(rt;
+            codes
+                .iter()
+                .map(|code| code.len())
+                .eq(lengths.iter().copied())
+        );
     }
     Ok(())
 }

@@ -46,6 +46,17 @@ fn one_entry_goes_round_another_read(rt: HostRuntime) -> Result<(), Fail> {
         entry(0, other, 7, 7),
     ];
     assert_eq!(rt; entries.as_slice(), wanted.as_slice());
+
+    // A store is no read.
+    let own = Event { thread: 0, step: 1 }.tag();
+    let store = Access {
+        step: 1,
+        word: 0,
+        saw: None,
+        wrote: Some(7),
+    };
+    let entries = entries_of(rt.alloc(), &[store, read(2, 0, own)])?;
+    assert_eq!(rt; entries.as_slice(), [entry(0, own, 2, 2)].as_slice());
     Ok(())
 }
 

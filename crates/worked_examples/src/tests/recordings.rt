@@ -1,8 +1,8 @@
 // Programs as text, recorded by an order of turns: the entries and the last tags of the log, and the transcript. The
-// expected values are worked out by hand, those of the last six by a model of the machine written apart from it.
+// expected values are worked out by hand, those of `TWO_FLAGS` to `TORN_PAIR` by a model of the machine written apart from it.
 use super::programs::{lines_of, program_of};
 use light_base::Tag;
-use machine::{Inputs, Limits};
+use machine::{End, Inputs, Limits};
 use recorder::{Recorded, record_turns};
 use replay_model::Entry;
 use std::alloc::{AllocError, Global};
@@ -18,7 +18,7 @@ pub struct Row {
     pub limits: (u32, u32, u32),
     pub order: &'static [u8],
     pub entries: &'static str,
-    pub lasts: &'static str,
+    pub last_tags: &'static str,
     pub text: &'static str,
 }
 
@@ -30,7 +30,7 @@ const OWN_WRITE: Row = Row {
     limits: MOST,
     order: &[],
     entries: "0 0:1 2 2;/",
-    lasts: "0:1;",
+    last_tags: "0:1;",
     text: "thread 0 halted steps 2 instr 4/out 7/word 0 7/",
 };
 
@@ -40,7 +40,7 @@ const INITIAL_VALUE: Row = Row {
     limits: MOST,
     order: &[0, 1],
     entries: "0 initial 1 1;//",
-    lasts: "1:1;",
+    last_tags: "1:1;",
     text: "thread 0 halted steps 1 instr 2/out 5/thread 1 halted steps 1 instr 2/word 0 9/",
 };
 
@@ -50,7 +50,7 @@ const LOST_UPDATE: Row = Row {
     limits: MOST,
     order: &[0, 1, 0, 1],
     entries: "0 initial 1 1;/0 initial 1 1;/",
-    lasts: "1:2;",
+    last_tags: "1:2;",
     text: "thread 0 halted steps 2 instr 4/out 1/thread 1 halted steps 2 instr 4/out 1/word 0 1/",
 };
 
@@ -60,7 +60,7 @@ const MESSAGE_PASSING: Row = Row {
     limits: MOST,
     order: &[1, 1, 0, 0, 1, 1],
     entries: "/1 initial 1 2;1 0:2 3 3;0 0:1 4 4;/",
-    lasts: "0:1;0:2;",
+    last_tags: "0:1;0:2;",
     text: "thread 0 halted steps 2 instr 4/thread 1 halted steps 4 instr 8/out 42/word 0 42/word 1 1/",
 };
 
@@ -70,17 +70,17 @@ const READ_BETWEEN: Row = Row {
     limits: MOST,
     order: &[],
     entries: "0 initial 1 3;1 initial 2 2;/",
-    lasts: "initial;initial;",
+    last_tags: "initial;initial;",
     text: "thread 0 halted steps 3 instr 3/",
 };
 
 // Three threads exchange a number for what stands in the word: each takes what the one before left.
-pub const EXCHANGE_CHAIN: Row = Row {
+const EXCHANGE_CHAIN: Row = Row {
     program: ".words 1/.thread/set r1 1/xchg r1 r0 0/out r1/.thread/set r1 2/xchg r1 r0 0/out r1/.thread/set r1 3/xchg r1 r0 0/out r1",
     limits: MOST,
     order: &[0, 1, 2],
     entries: "0 initial 1 1;/0 0:1 1 1;/0 1:1 1 1;/",
-    lasts: "2:1;",
+    last_tags: "2:1;",
     text: "thread 0 halted steps 1 instr 3/out 0/thread 1 halted steps 1 instr 3/out 1/thread 2 halted steps 1 instr 3/out 2/word 0 3/",
 };
 
@@ -90,7 +90,7 @@ const BLIND_STORES: Row = Row {
     limits: MOST,
     order: &[0, 2, 1],
     entries: "0 initial 1 1;///",
-    lasts: "1:1;",
+    last_tags: "1:1;",
     text: "thread 0 halted steps 1 instr 2/out 0/thread 1 halted steps 1 instr 2/thread 2 halted steps 1 instr 2/word 0 5/",
 };
 
@@ -100,7 +100,7 @@ pub const OTHER_WRITER: Row = Row {
     limits: MOST,
     order: &[0, 1, 0],
     entries: "0 initial 1 1;0 1:1 2 2;//",
-    lasts: "1:1;",
+    last_tags: "1:1;",
     text: "thread 0 halted steps 2 instr 5/out 2/out 5/thread 1 halted steps 1 instr 2/word 0 5/",
 };
 
@@ -110,7 +110,7 @@ const OTHER_VALUE: Row = Row {
     limits: MOST,
     order: &[],
     entries: "0 initial 1 1;/",
-    lasts: "initial;",
+    last_tags: "initial;",
     text: "thread 0 halted steps 1 instr 5/out 0/out 4/word 0 4/",
 };
 
@@ -120,7 +120,7 @@ const COMPARE_EXCHANGE_WINS: Row = Row {
     limits: MOST,
     order: &[],
     entries: "0 initial 1 2;/",
-    lasts: "0:2;",
+    last_tags: "0:2;",
     text: "thread 0 halted steps 2 instr 5/out 1/out 5/word 0 8/",
 };
 
@@ -130,7 +130,7 @@ const HALF_OF_A_COMPARE_EXCHANGE: Row = Row {
     limits: (1, 100, 100),
     order: &[],
     entries: "0 initial 1 1;/",
-    lasts: "initial;",
+    last_tags: "initial;",
     text: "thread 0 steps-spent steps 1 instr 2/word 0 5/",
 };
 
@@ -140,7 +140,7 @@ const ENTRIES_BETWEEN: Row = Row {
     limits: (100, 100, 1),
     order: &[],
     entries: "0 initial 1 1;/",
-    lasts: "initial;",
+    last_tags: "initial;",
     text: "thread 0 entries-full steps 1 instr 2/word 0 5/",
 };
 
@@ -150,7 +150,7 @@ const ADDRESSES: Row = Row {
     limits: MOST,
     order: &[],
     entries: "/0 initial 1 1;/",
-    lasts: "",
+    last_tags: "",
     text: "thread 0 bad-address 4096 steps 0 instr 0/thread 1 halted steps 1 instr 3/out 0/",
 };
 
@@ -160,7 +160,7 @@ const ONE_ENTRY: Row = Row {
     limits: (100, 100, 1),
     order: &[],
     entries: "0 initial 1 1;/",
-    lasts: "initial;0:2;",
+    last_tags: "initial;0:2;",
     text: "thread 0 entries-full steps 2 instr 2/",
 };
 
@@ -170,7 +170,7 @@ const INSTRUCTIONS_SPENT: Row = Row {
     limits: (100, 5, 100),
     order: &[],
     entries: "/",
-    lasts: "initial;initial;initial;",
+    last_tags: "initial;initial;initial;",
     text: "thread 0 instr-spent steps 0 instr 5/out 4294967295/out 10/word 0 1/word 2 20/",
 };
 
@@ -180,7 +180,7 @@ const THREE_ALLOWED: Row = Row {
     limits: (100, 100, 3),
     order: &[],
     entries: "0 initial 1 2;1 initial 3 3;/",
-    lasts: "initial;initial;",
+    last_tags: "initial;initial;",
     text: "thread 0 halted steps 3 instr 3/",
 };
 
@@ -203,7 +203,7 @@ const ARITHMETIC: Row = Row {
     limits: MOST,
     order: &[],
     entries: "/",
-    lasts: "initial;",
+    last_tags: "initial;",
     text: "thread 0 halted steps 0 instr 20/out 42/out 4294967268/out 245/out 3/out 39/out 36/out 56/out 0/out 35/",
 };
 
@@ -213,7 +213,7 @@ const JUMPS: Row = Row {
     limits: MOST,
     order: &[],
     entries: "/",
-    lasts: "initial;",
+    last_tags: "initial;",
     text: "thread 0 halted steps 0 instr 8/out 1/out 1/",
 };
 
@@ -221,9 +221,9 @@ const JUMPS: Row = Row {
 const STORE_BUFFERING: Row = Row {
     program: arena_samples::STORE_BUFFER,
     limits: MOST,
-    order: &[],
+    order: &[0, 1, 0, 1],
     entries: "1 1:1 2 2;/0 0:1 2 2;/",
-    lasts: "0:1;1:1;",
+    last_tags: "0:1;1:1;",
     text: "thread 0 halted steps 2 instr 4/out 1/thread 1 halted steps 2 instr 4/out 1/word 0 1/word 1 1/",
 };
 
@@ -233,7 +233,7 @@ const STORE_BUFFERING_IN_TURN: Row = Row {
     limits: MOST,
     order: &[0, 0, 1, 1],
     entries: "1 initial 2 2;/0 0:1 2 2;/",
-    lasts: "0:1;1:1;",
+    last_tags: "0:1;1:1;",
     text: "thread 0 halted steps 2 instr 4/out 0/thread 1 halted steps 2 instr 4/out 1/word 0 1/word 1 1/",
 };
 
@@ -243,7 +243,7 @@ pub const TWO_FLAGS: Row = Row {
     limits: MOST,
     order: &[],
     entries: "1 1:1 2 2;/0 0:1 2 2;/",
-    lasts: "0:1;1:1;",
+    last_tags: "0:1;1:1;",
     text: "thread 0 halted steps 2 instr 4/thread 1 halted steps 2 instr 4/word 0 1/word 1 1/",
 };
 
@@ -253,7 +253,7 @@ const BANK_TRANSFER: Row = Row {
     limits: MOST,
     order: &[],
     entries: "0 initial 1 2;1 initial 3 3;2 initial 5 5;/0 initial 1 1;0 0:2 2 6;0 0:7 7 8;2 0:6 9 9;1 0:4 11 11;/",
-    lasts: "1:13;1:12;1:10;",
+    last_tags: "1:13;1:12;1:10;",
     text: "thread 0 halted steps 7 instr 12/thread 1 halted steps 13 instr 27/word 1 45/word 2 55/",
 };
 
@@ -263,7 +263,7 @@ const DOUBLE_CHECKED: Row = Row {
     limits: MOST,
     order: &[],
     entries: "1 initial 1 4;0 initial 2 3;3 0:7 9 9;/4 initial 1 4;1 0:5 5 5;3 initial 6 6;/",
-    lasts: "0:8;0:5;0:6;0:7;initial;",
+    last_tags: "0:8;0:5;0:6;0:7;initial;",
     text: "thread 0 halted steps 9 instr 15/out 42/thread 1 halted steps 6 instr 9/out 0/word 1 1/word 2 42/word 3 42/",
 };
 
@@ -273,7 +273,7 @@ const ABA: Row = Row {
     limits: MOST,
     order: &[],
     entries: "0 initial 1 1;1 initial 2 2;3 initial 3 14;0 1:12 15 16;/0 initial 1 4;1 initial 2 2;0 1:4 5 8;2 initial 6 6;0 1:8 9 12;/",
-    lasts: "0:16;1:10;initial;initial;",
+    last_tags: "0:16;1:10;initial;initial;",
     text: "thread 0 halted steps 16 instr 41/out 1/thread 1 halted steps 12 instr 10/out 1/word 0 2/",
 };
 
@@ -283,11 +283,21 @@ const TORN_PAIR: Row = Row {
     limits: MOST,
     order: &[],
     entries: "/1 initial 1 1;0 0:1 2 2;/",
-    lasts: "0:1;0:2;",
+    last_tags: "0:1;0:2;",
     text: "thread 0 halted steps 2 instr 3/thread 1 halted steps 2 instr 4/out 0/out 1/word 0 1/word 1 1/",
 };
 
-pub static ROWS: [Row; 27] = [
+// Five threads on three words, in an order at which the plain search of their log meets two dead ends.
+const FIVE_THREADS: Row = Row {
+    program: ".words 3/.thread/set r1 1/store r1 r0 2/set r1 2/store r1 r0 2/load r2 r0 0/out r2/.thread/set r1 3/store r1 r0 0/store r1 r0 1/load r2 r0 1/out r2/.thread/set r1 4/store r1 r0 0/load r2 r0 2/out r2/.thread/load r1 r0 0/load r2 r0 2/set r3 5/store r3 r0 1/load r4 r0 1/out r1/out r2/out r4/.thread/set r1 6/store r1 r0 0/store r1 r0 1/store r1 r0 2",
+    limits: MOST,
+    order: &[0, 2, 2, 0, 3, 3, 1, 0, 1, 1, 3, 3, 4, 4, 4],
+    entries: "0 1:1 3 3;/1 1:2 3 3;/2 0:1 2 2;/0 2:1 1 1;2 0:2 2 2;1 3:3 4 4;//",
+    last_tags: "4:1;4:2;4:3;",
+    text: "thread 0 halted steps 3 instr 6/out 3/thread 1 halted steps 3 instr 5/out 3/thread 2 halted steps 2 instr 4/out 1/thread 3 halted steps 4 instr 8/out 4/out 2/out 5/thread 4 halted steps 3 instr 4/word 0 6/word 1 6/word 2 6/",
+};
+
+pub static ROWS: [Row; 28] = [
     OWN_WRITE,
     INITIAL_VALUE,
     LOST_UPDATE,
@@ -315,6 +325,7 @@ pub static ROWS: [Row; 27] = [
     DOUBLE_CHECKED,
     ABA,
     TORN_PAIR,
+    FIVE_THREADS,
 ];
 
 fn source_of(alloc: Global, tag: Tag) -> Result<String, AllocError> {
@@ -342,7 +353,7 @@ pub fn entries_of(alloc: Global, recorded: &Recorded) -> Result<String, AllocErr
 }
 
 // The last tags, as a row tells them.
-pub fn lasts_of(alloc: Global, recorded: &Recorded) -> Result<String, AllocError> {
+pub fn last_tags_of(alloc: Global, recorded: &Recorded) -> Result<String, AllocError> {
     let mut told = String::new(alloc);
     for tag in recorded.log().finals() {
         told.push_str(source_of(alloc, *tag)?.as_str())?;
@@ -380,8 +391,8 @@ fn agrees(recorded: &Recorded, limits: (u32, u32, u32)) -> bool {
 pub fn check(rt: &impl Abort, alloc: Global, row: &Row, recorded: &Recorded) -> Result<(), Fail> {
     assert!(rt; agrees(recorded, row.limits), "{}", row.program);
     assert_eq!(rt; entries_of(alloc, recorded)?.as_str(), row.entries);
-    if !row.lasts.is_empty() {
-        assert_eq!(rt; lasts_of(alloc, recorded)?.as_str(), row.lasts);
+    if !row.last_tags.is_empty() {
+        assert_eq!(rt; last_tags_of(alloc, recorded)?.as_str(), row.last_tags);
     }
     let text = text_of(alloc, recorded.reports(), recorded.finals())?;
     let expected = lines_of(alloc, row.text)?;
@@ -396,5 +407,33 @@ fn programs_are_recorded_by_turns(rt: HostRuntime) -> Result<(), Fail> {
         let recorded = recorded(&rt, alloc, row)?;
         check(&rt, alloc, row, &recorded)?;
     }
+    Ok(())
+}
+
+// A recording and the log in it, taken apart.
+#[test]
+fn recordings_have_their_parts(rt: HostRuntime) -> Result<(), Fail> {
+    let alloc = rt.alloc();
+    let (log, mut reports, values) = recorded(&rt, alloc, &OWN_WRITE)?.into_parts();
+    assert_eq!(rt; values.as_slice(), [7].as_slice());
+    let report = reports.pop().ok_or("one thread")?;
+    let (end, steps, instr, output, taken) = report.into_parts();
+    assert_eq!(rt;
+        (reports.len(), end, steps, instr, taken),
+        (0, End::Halted, 2, 4, 0)
+    );
+    assert_eq!(rt; output.as_slice(), [7].as_slice());
+    let (digest, limits, mut threads, tags) = log.into_parts();
+    assert_eq!(rt; (digest, limits.entries(), tags.len()), ([0; 32], 100, 1));
+    let thread = threads.pop().ok_or("one thread")?;
+    let (entries, steps, instr, end, taken) = thread.into_parts();
+    assert_eq!(rt;
+        (threads.len(), end, steps, instr, taken.len()),
+        (0, End::Halted, 2, 4, 0)
+    );
+    assert_eq!(rt;
+        (entries.len(), tags.last()),
+        (1, entries.first().map(|entry| &entry.source))
+    );
     Ok(())
 }

@@ -4,7 +4,7 @@ use super::programs::{lines_of, program_of};
 use dep_log::RunLog;
 use light_base::{Event, Memory, Tag};
 use log_file::{read_log, write_log};
-use machine::{Inputs, Limits, Program};
+use machine::{End, Inputs, Limits, Program};
 use recorder::record_turns;
 use replayer::{Kept, Replay, Replayed, Turned, replay_order};
 use std::alloc::{AllocError, Global};
@@ -200,14 +200,14 @@ fn answer_of(alloc: Global, replayed: &Replayed) -> Result<Vec<u8>, Memory> {
     }
 }
 
-// The events before which their threads ended, as the order is taken turn by turn, and the answer.
+// The events before which their threads ended, each with the end, as the order is taken turn by turn, and the answer.
 fn answer_by_turns(
     rt: &impl Abort,
     alloc: Global,
     program: &Program,
     log: &RunLog,
     order: &[Event],
-) -> Result<(Vec<Event>, Vec<u8>), Fail> {
+) -> Result<(Vec<(Event, End)>, Vec<u8>), Fail> {
     assert_eq!(rt; program.threads_count(), log.threads().len());
     assert_eq!(rt; program.words().len(), log.finals().len());
     let mut replay = Replay::new(alloc, program, log)?;
@@ -216,7 +216,7 @@ fn answer_by_turns(
         assert!(rt; usize::from(event.thread) < program.threads_count());
         match replay.turn(*event)? {
             Turned::Done => assert_eq!(rt; replay.steps_of(event.thread), event.step),
-            Turned::Short(_) => shorts.push(*event)?,
+            Turned::Short(end) => shorts.push((*event, end))?,
         }
     }
     assert_eq!(rt; replay.turns(), order);
@@ -289,7 +289,7 @@ fn turn_past_the_end_is_short(rt: HostRuntime) -> Result<(), Fail> {
     let (shorts, answer) = answer_by_turns(&rt, alloc, &program, &log, &order)?;
     assert_eq!(rt;
         shorts.as_slice(),
-        [Event { thread: 0, step: 3 }].as_slice()
+        [(Event { thread: 0, step: 3 }, End::Halted)].as_slice()
     );
     assert_eq!(rt;
         answer.as_slice(),

@@ -53,7 +53,8 @@ fn opened_alone(alloc: Global) -> Result<(Words, Hand), Memory>
 // The cells that all hands left, which stand at their numbers.
 fn closed(alloc: Global, words: Words, hands: Vec<Hand>) -> Result<Vec<Cell>, Memory>
     requires count { length hands.items ≡ words.start.threads }
-    requires each { (i : ℕ) (d : _) → i < length hands.items → ((slice_index_or hands.items i d).words ≡ words) × ((slice_index_or hands.items i d).thread ≡ i) }
+    requires each { (i : ℕ) (d : _) → i < length hands.items →
+        ((slice_index_or hands.items i d).words ≡ words) × ((slice_index_or hands.items i d).thread ≡ i) }
 {
     words.close(alloc, hands)
 }
@@ -150,7 +151,8 @@ fn play_all<R: Threads + Sync>(
     requires two { length words.now.start.initial ≡ 2 }
     requires ready { All (λ hand. IsOf words.now hand × (length hand.steps ≡ 0)) hands.items }
     ensures len { IfOk result (λ v. vec_len v ≡ vec_len hands) }
-    ensures each { IfOk result (λ v. (i : ℕ) (d : _) (e : _) → i < length hands.items → ((slice_index_or v.items i d).hand.words ≡ words.now) × ((slice_index_or v.items i d).hand.thread ≡ (slice_index_or hands.items i e).thread)) }
+    ensures each { IfOk result (λ v. (i : ℕ) (d : _) (e : _) → i < length hands.items →
+        ((slice_index_or v.items i d).hand.words ≡ words.now) × ((slice_index_or v.items i d).hand.thread ≡ (slice_index_or hands.items i e).thread)) }
 {
     thread::map_vec(rt, hands, &|hand| play(alloc, words, hand))
 }

@@ -1,14 +1,11 @@
-// Programs as text, recorded on real threads. Where each history of a program ends alike, all is compared; where a gate
-// holds threads, so that they go on in one order alone, all is compared too.
+// Programs as text, recorded on real threads. Where each history of a program ends alike, all is compared.
 use super::programs::program_of;
 use super::recordings::{Row, check};
 use machine::{End, Inputs, Limits, RunReport};
-use recorder::{Gate, OpenGate, Recorded, record, run_thread};
+use recorder::{OpenGate, Recorded, record, run_thread};
 use std::alloc::Global;
 use std::process::Abort;
-use std::sync::atomic::{AtomicBool, AtomicU64, Ordering};
 use std::test::Fail;
-use std::thread;
 use std::thread::Threads;
 use tagged_words::Words;
 
@@ -23,7 +20,7 @@ const READ_BETWEEN: Row = Row {
     limits: MOST,
     order: &[],
     entries: "0 initial 1 3;1 initial 2 2;/",
-    lasts: "initial;initial;",
+    last_tags: "initial;initial;",
     text: "thread 0 halted steps 3 instr 3/",
 };
 
@@ -32,7 +29,7 @@ const ONE_ENTRY: Row = Row {
     limits: (100, 100, 1),
     order: &[],
     entries: "0 initial 1 1;/",
-    lasts: "initial;0:2;",
+    last_tags: "initial;0:2;",
     text: "thread 0 entries-full steps 2 instr 2/",
 };
 
@@ -41,7 +38,7 @@ const COMPARE_EXCHANGE_WINS: Row = Row {
     limits: MOST,
     order: &[],
     entries: "0 initial 1 2;/",
-    lasts: "0:2;",
+    last_tags: "0:2;",
     text: "thread 0 halted steps 2 instr 5/out 1/out 5/word 0 8/",
 };
 
@@ -51,7 +48,7 @@ const ADDRESSES: Row = Row {
     limits: MOST,
     order: &[],
     entries: "/0 initial 1 1;/",
-    lasts: "",
+    last_tags: "",
     text: "thread 0 bad-address 4096 steps 0 instr 0/thread 1 halted steps 1 instr 3/out 0/",
 };
 
@@ -60,7 +57,7 @@ const NO_STEPS: Row = Row {
     limits: (0, 100, 100),
     order: &[],
     entries: "//",
-    lasts: "initial;",
+    last_tags: "initial;",
     text: "thread 0 steps-spent steps 0 instr 0/thread 1 steps-spent steps 0 instr 0/",
 };
 
@@ -72,23 +69,9 @@ static FORCED: [Row; 5] = [
     NO_STEPS,
 ];
 
-// Between the two steps of a compare-exchange another thread writes the same value, and reads it.
-const OTHER_WRITER: Row = Row {
-    program: ".words 1/.init 0 5/.thread/set r1 5/set r2 8/cas r1 r0 r2 0/out r15/out r1/.thread/set r1 5/store r1 r0 0/load r1 r0 0",
-    limits: MOST,
-    order: &[],
-    entries: "0 initial 1 1;0 1:1 2 2;/0 1:1 2 2;/",
-    lasts: "1:1;",
-    text: "thread 0 halted steps 2 instr 5/out 2/out 5/thread 1 halted steps 2 instr 3/word 0 5/",
-};
-
 // Each thread writes its own word and reads the other one: not both read 0.
 const STORE_BUFFERING: &str =
     ".words 2/.thread/set r1 1/store r1 r0 0/load r2 r0 1/out r2/.thread/set r1 1/store r1 r0 1/load r2 r0 0/out r2";
-
-// Each thread raises a flag and waits for the other one.
-const TWO_FLAGS: &str =
-    ".words 2/.thread/set r1 1/store r1 r0 0/wait: load r2 r0 1/jeq r2 r0 wait/.thread/set r1 1/store r1 r0 1/wait: load r2 r0 0/jeq r2 r0 wait";
 
 // A thread writes a value and then a flag; another one waits for the flag and reads the value.
 const MESSAGE_PASSING: &str =
@@ -98,91 +81,17 @@ const MESSAGE_PASSING: &str =
 const COUNTING_THREAD: &str =
     "/.thread/set r4 50/set r5 1/next: load r1 r0 0/mov r3 r1/addi r2 r1 1/cas r1 r0 r2 0/jne r15 r5 next/addi r6 r6 1/jlt r6 r4 next";
 
-// Holds one call until another one was made.
-#[derive(Drop)]
-struct Hold {
-    held: (u8, u32),
-    until: (u8, u32),
-    was_made: AtomicBool,
-}
-
-// How often a held call looks whether the other one was made.
-const MOST_TURNS: u32 = 100_000_000;
-
-// Holds calls; none for ever.
-#[derive(Drop)]
-pub struct HoldingGate {
-    holds: [Hold; 2],
-    // How many calls waited in vain.
-    vain: AtomicU64,
-}
-
-impl HoldingGate {
-    pub fn new(holds: [((u8, u32), (u8, u32)); 2]) -> HoldingGate {
-        let [first, second] = holds;
-        HoldingGate {
-            holds: [Hold::new(first.0, first.1), Hold::new(second.0, second.1)],
-            vain: AtomicU64::new(0),
-        }
-    }
-
-    // How many calls waited in vain.
-    pub fn in_vain(&self) -> u64 {
-        self.vain.load(Ordering::SeqCst)
-    }
-}
-
-impl Hold {
-    fn new(held: (u8, u32), until: (u8, u32)) -> Hold {
-        Hold {
-            held,
-            until,
-            was_made: AtomicBool::new(false),
-        }
-    }
-
-    // Whether the other call was made in time.
-    fn wait(&self) -> bool {
-        for turn in 0..MOST_TURNS {
-            if self.was_made.load(Ordering::SeqCst) {
-                return true;
-            }
-            if turn % 1024 == 1023 {
-                thread::yield_now();
-            }
-        }
-        false
-    }
-}
-
-impl Gate for HoldingGate {
-    fn pass(&self, thread: u8, step: u32) {
-        let call = (thread, step);
-        for hold in &self.holds {
-            if hold.until == call {
-                hold.was_made.store(true, Ordering::SeqCst);
-            }
-        }
-        for hold in &self.holds {
-            if hold.held == call && !hold.wait() {
-                self.vain.fetch_add(1, Ordering::SeqCst);
-            }
-        }
-    }
-}
-
-fn recorded<R: Threads + Sync + Abort, G: Gate>(
+fn recorded<R: Threads + Sync + Abort>(
     rt: &R,
     alloc: Global,
     text: &str,
     limits: (u32, u32, u32),
-    gate: &G,
 ) -> Result<Recorded, Fail> {
     let program = program_of(rt, alloc, text)?;
     let (steps, instr, entries) = limits;
     let limits = Limits::new(steps, instr, entries).ok_or("these are limits")?;
     let inputs = Inputs::none(alloc, program.threads_count() as u8)?;
-    Ok(record(rt, alloc, &program, &limits, &inputs, gate)?)
+    Ok(record(rt, alloc, &program, &limits, &inputs, &OpenGate)?)
 }
 
 // A thread alone at its words, which reads what it wrote.
@@ -214,21 +123,9 @@ fn one_thread_runs_to_its_end(rt: HostRuntime) -> Result<(), Fail> {
 fn what_is_forced_is_recorded_on_threads(rt: HostRuntime) -> Result<(), Fail> {
     let alloc = rt.alloc();
     for row in &FORCED {
-        let recorded = recorded(&rt, alloc, row.program, row.limits, &OpenGate)?;
+        let recorded = recorded(&rt, alloc, row.program, row.limits)?;
         check(&rt, alloc, row, &recorded)?;
     }
-    Ok(())
-}
-
-// The first thread's second step waits until the second thread has taken its first.
-#[test]
-fn a_gate_puts_a_write_between(rt: HostRuntime) -> Result<(), Fail> {
-    let alloc = rt.alloc();
-    let gate = HoldingGate::new([((1, 1), (0, 2)), ((0, 2), (1, 2))]);
-    let row = OTHER_WRITER;
-    let recorded = recorded(&rt, alloc, row.program, row.limits, &gate)?;
-    check(&rt, alloc, &row, &recorded)?;
-    assert_eq!(rt; gate.in_vain(), 0);
     Ok(())
 }
 
@@ -236,41 +133,11 @@ fn has_halted(report: &RunReport) -> bool {
     report.end() == End::Halted
 }
 
-// Each thread's first step waits for the other one's, and then each for the other one's flag.
-fn flags_are_met<R: Threads + Sync + Abort, G: Gate>(
-    rt: &R,
-    alloc: Global,
-    gate: &G,
-) -> Result<(), Fail> {
-    let recorded = recorded(rt, alloc, TWO_FLAGS, GREATEST, gate)?;
-    assert_eq!(rt; recorded.reports().len(), 2);
-    for report in recorded.reports() {
-        assert!(rt;
-            has_halted(report) && report.instr() / 2 == report.steps() && report.instr() % 2 == 0
-        );
-    }
-    assert_eq!(rt; recorded.finals(), [1, 1].as_slice());
-    Ok(())
-}
-
-#[test]
-fn two_flags_are_raised_on_threads(rt: HostRuntime) -> Result<(), Fail> {
-    flags_are_met(&rt, rt.alloc(), &OpenGate)
-}
-
-#[test]
-fn both_threads_stand_at_the_gate(rt: HostRuntime) -> Result<(), Fail> {
-    let gate = HoldingGate::new([((0, 1), (1, 1)), ((1, 1), (0, 1))]);
-    flags_are_met(&rt, rt.alloc(), &gate)?;
-    assert_eq!(rt; gate.in_vain(), 0);
-    Ok(())
-}
-
 #[test]
 fn messages_are_passed_on_threads(rt: HostRuntime) -> Result<(), Fail> {
     let alloc = rt.alloc();
     for _ in 0..100 {
-        let recorded = recorded(&rt, alloc, MESSAGE_PASSING, GREATEST, &OpenGate)?;
+        let recorded = recorded(&rt, alloc, MESSAGE_PASSING, GREATEST)?;
         for report in recorded.reports() {
             assert!(rt; has_halted(report) && report.instr() / 2 == report.steps());
         }
@@ -299,7 +166,7 @@ fn has_won_or_lost(recorded: &Recorded) -> bool {
 fn a_compare_exchange_wins_or_loses(rt: HostRuntime) -> Result<(), Fail> {
     let alloc = rt.alloc();
     for _ in 0..100 {
-        let recorded = recorded(&rt, alloc, COMPARE_EXCHANGE, MOST, &OpenGate)?;
+        let recorded = recorded(&rt, alloc, COMPARE_EXCHANGE, MOST)?;
         assert!(rt; recorded.reports().iter().all(has_halted) && has_won_or_lost(&recorded));
     }
     Ok(())
@@ -313,7 +180,7 @@ fn missed(report: &RunReport) -> bool {
 fn stores_are_never_both_missed(rt: HostRuntime) -> Result<(), Fail> {
     let alloc = rt.alloc();
     for _ in 0..1000 {
-        let recorded = recorded(&rt, alloc, STORE_BUFFERING, MOST, &OpenGate)?;
+        let recorded = recorded(&rt, alloc, STORE_BUFFERING, MOST)?;
         let reports = recorded.reports();
         assert!(rt; reports.iter().all(has_halted));
         assert!(rt; !reports.iter().all(missed), "both threads read 0");
@@ -328,7 +195,7 @@ fn fifteen_threads_count_on_one_word(rt: HostRuntime) -> Result<(), Fail> {
     for _ in 0..15 {
         text.push_str(COUNTING_THREAD)?;
     }
-    let recorded = recorded(&rt, alloc, text.as_str(), GREATEST, &OpenGate)?;
+    let recorded = recorded(&rt, alloc, text.as_str(), GREATEST)?;
     assert_eq!(rt; recorded.reports().len(), 15);
     assert!(rt; recorded.reports().iter().all(has_halted));
     assert_eq!(rt; recorded.finals(), [750].as_slice());

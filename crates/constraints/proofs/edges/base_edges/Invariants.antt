@@ -4,4 +4,4 @@ use Rattle.constraints.specs.Building.{placed_edges}
 use Rattle.constraints.proofs.edges.base_edges.Given as goal
 
 abbrev pub invariant-loop-entry : goal.invariant-loop-entry
-invariant-loop-entry l = l.edges.items ≡ flat_map (placed_edges l.sources l.finals) (take l.entry-index l.placed)
+invariant-loop-entry l = l.edges.items ≡ flat_map (placed_edges l.sources l.last_tags) (take l.entry-index l.placed)

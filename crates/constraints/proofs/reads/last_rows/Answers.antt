@@ -7,10 +7,10 @@ loop-key-preserved c =
 
 pub new-requires : goal.new-requires
 new-requires c =
-    last_starts-of c.args.keys.now c.args.reads.now c.in_ok-lasts.field-0.items c.loop-key.starts.items c.requires.keys c.in_ok-lasts.ensures
+    last_starts-of c.args.keys.now c.args.reads.now c.in_ok-last_reads.field-0.items c.loop-key.starts.items c.requires.keys c.in_ok-last_reads.ensures
     (key_starts-end c.args.keys.now c.args.reads.now c.loop-key.key-index c.loop-key.starts.items c.loop-key-test.false c.loop-key.invariant)
 
 pub returns : goal.returns
 returns c =
-    last_rows-of c.args.keys.now c.args.reads.now c.in_ok-lasts.field-0.items c.loop-key.starts.items c.new.result c.requires.keys c.requires.reads c.in_ok-lasts.ensures
+    last_rows-of c.args.keys.now c.args.reads.now c.in_ok-last_reads.field-0.items c.loop-key.starts.items c.new.result c.requires.keys c.requires.reads c.in_ok-last_reads.ensures
     (key_starts-end c.args.keys.now c.args.reads.now c.loop-key.key-index c.loop-key.starts.items c.loop-key-test.false c.loop-key.invariant) c.new.ensures

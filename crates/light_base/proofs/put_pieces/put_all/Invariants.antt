@@ -1,10 +1,9 @@
 use Rattle.std.proofs.Common.{length}
-use Rattle.light_base.proofs.PutFront.{Put}
+use Rattle.light_base.proofs.PutFront.{PutSome}
 use Rattle.light_base.proofs.put_pieces.put_all.Given as goal
 
 abbrev pub invariant-loop-rest : goal.invariant-loop-rest
-invariant-loop-rest g l =
-    Put (g.K.Sink.taken l.initial.out) (g.K.Sink.taken l.out) (g.K.Sink.faults l.initial.out) (g.K.Sink.faults l.out) l.bytes l.rest
+invariant-loop-rest g l = PutSome (g.K.Sink.told l.initial.out) (g.K.Sink.told l.out) l.bytes l.rest
 
 abbrev pub decreases-loop-rest : goal.decreases-loop-rest
 decreases-loop-rest g l = length l.rest

@@ -18,15 +18,15 @@ returns-in_err-limits-clause-refused c =
 
 pub new-requires : goal.new-requires
 new-requires c =
-    let log : Log = record { digest = slice_range c.args.bytes.now 7 39; limits = c.in_ok-limits.limits; threads = c.in_ok-limits.threads.items; lasts = c.in_ok-limits.lasts.items } in
+    let log : Log = record { digest = slice_range c.args.bytes.now 7 39; limits = c.in_ok-limits.limits; threads = c.in_ok-limits.threads.items; last_tags = c.in_ok-limits.last_tags.items } in
     rw c.digest_in.ensures ((log_take c.args.version c.args.bytes.now log (λ i. omega (arith, c.type_inv.bytes i)) c.in_ok-limits.ensures.read).formed)
 
 pub returns-clause-found : goal.returns-clause-found
 returns-clause-found c =
-    let log : Log = record { digest = slice_range c.args.bytes.now 7 39; limits = c.in_ok-limits.limits; threads = c.in_ok-limits.threads.items; lasts = c.in_ok-limits.lasts.items } in
+    let log : Log = record { digest = slice_range c.args.bytes.now 7 39; limits = c.in_ok-limits.limits; threads = c.in_ok-limits.threads.items; last_tags = c.in_ok-limits.last_tags.items } in
     rw (c.new.ensures, c.digest_in.ensures) (log_take c.args.version c.args.bytes.now log (λ i. omega (arith, c.type_inv.bytes i)) c.in_ok-limits.ensures.read)
 
 pub returns-clause-only : goal.returns-clause-only
 returns-clause-only c =
-    let log : Log = record { digest = slice_range c.args.bytes.now 7 39; limits = c.in_ok-limits.limits; threads = c.in_ok-limits.threads.items; lasts = c.in_ok-limits.lasts.items } in
+    let log : Log = record { digest = slice_range c.args.bytes.now 7 39; limits = c.in_ok-limits.limits; threads = c.in_ok-limits.threads.items; last_tags = c.in_ok-limits.last_tags.items } in
     rw (c.new.ensures, c.digest_in.ensures) (λ other text. only_is c.args.version c.args.bytes.now (Ok log) other c.in_ok-limits.ensures.read text)

@@ -26,6 +26,6 @@ returns-clause-written c =
     let digest = ap (λ (bytes : List ℕ). c.put_u16.new.out.items ++ bytes) c.digest.ensures in
     let limits = ap (λ (l : Limits). c.put_digest.new.out.items ++ limits_bytes l) c.limits.ensures in
     OnOk-then c.put_limits.result
-    (λ e. appended c.args.out.now.items _ _ _ _ _ (magic_of Two) (length log.threads ∷ []) (to_be_bytes w16 (length log.lasts)) log.digest (limits_bytes log.limits)
+    (λ e. appended c.args.out.now.items _ _ _ _ _ (magic_of Two) (length log.threads ∷ []) (to_be_bytes w16 (length log.last_tags)) log.digest (limits_bytes log.limits)
     (c.in_ok-extend_from_slice.ensures.items ∙ ap (λ (bytes : List ℕ). c.args.out.now.items ++ bytes) c.magic.ensures) (c.in_ok-push.ensures.items ∙ threads) (c.in_ok-put_u16.ensures.ok ∙ words) (c.in_ok-put_digest.ensures.written ∙ digest) (e ∙ limits))
     c.put_limits.ensures

@@ -1,7 +1,7 @@
 use Rattle.std.proofs.Common.{◌≡◌, ℕ, ◌+◌, length, subst, sym, arith}
-use Rattle.order_solver.specs.Begun.{HoldsRuns}
+use Rattle.order_solver.specs.Begun.{HoldsRuns, HoldsWords}
 use Rattle.order_solver.proofs.Adding.{narrower-alike, narrower-step, narrower-cycle}
-use Rattle.order_solver.proofs.Beginning.{HoldsWords, words-more}
+use Rattle.order_solver.proofs.Beginning.{words-more}
 use Rattle.order_solver.proofs.begin.add_words.Goals as goal
 
 pub returns-in-Cycle : goal.returns-in-Cycle

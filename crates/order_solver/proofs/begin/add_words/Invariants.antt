@@ -1,5 +1,5 @@
 use Rattle.order_solver.specs.Sides.{IsNarrower}
-use Rattle.order_solver.proofs.Beginning.{HoldsWords}
+use Rattle.order_solver.specs.Begun.{HoldsWords}
 use Rattle.order_solver.proofs.begin.add_words.Given as goal
 
 abbrev pub invariant-loop-word : goal.invariant-loop-word

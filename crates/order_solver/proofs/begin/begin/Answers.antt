@@ -1,7 +1,8 @@
 use Rattle.std.proofs.Common.{◌∙◌}
 use Rattle.plain_search.specs.Edges.{Holds}
 use Rattle.order_solver.proofs.Adding.{narrows-in, narrows-cycle}
-use Rattle.order_solver.proofs.Beginning.{HoldsWords, chains-alone, base-unsolved, runs-unsolved, all-begun, base-nodes}
+use Rattle.order_solver.specs.Begun.{HoldsWords}
+use Rattle.order_solver.proofs.Beginning.{chains-alone, base-unsolved, runs-unsolved, all-begun, base-nodes}
 use Rattle.order_solver.proofs.begin.begin.Goals as goal
 
 pub add_edges-requires : goal.add_edges-requires

@@ -22,7 +22,7 @@ loop-low-preserved-then-precedes g c =
 pub returns-clause-last : goal.returns-clause-last
 returns-clause-last g c =
     let r = g.R.Rivals.rivalry c.args.rivals.now in
-    let F : ℕ → Type 0 = λ n. n < c.args.end → Implies (edges_of c.args.graph.now) (edges_to (r.lasts c.args.word (source_at r c.args.word n)) (source_at r c.args.word c.args.source)) → ⊥ in
+    let F : ℕ → Type 0 = λ n. n < c.args.end → Implies (edges_of c.args.graph.now) (edges_to (r.last_reads c.args.word (source_at r c.args.word n)) (source_at r c.args.word c.args.source)) → ⊥ in
     let o = c.loop-low.invariant.order in
     let e : c.loop-low.high ≡ c.loop-low.low = omega (arith, o) in
     subst F e c.loop-low.invariant.last

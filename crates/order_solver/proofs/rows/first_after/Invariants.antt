@@ -12,7 +12,7 @@ invariant-loop-low g l = record {
   order : l.low ≤ l.high;
   high : l.high ≤ l.end;
   before : AreBefore (g.R.Rivals.rivalry l.rivals) (edges_of l.graph) l.word l.source l.from l.low;
-  last : l.high < l.end → Implies (edges_of l.graph) (edges_to ((g.R.Rivals.rivalry l.rivals).lasts l.word (source_at (g.R.Rivals.rivalry l.rivals) l.word l.high)) (source_at (g.R.Rivals.rivalry l.rivals) l.word l.source)) → ⊥;
+  last : l.high < l.end → Implies (edges_of l.graph) (edges_to ((g.R.Rivals.rivalry l.rivals).last_reads l.word (source_at (g.R.Rivals.rivalry l.rivals) l.word l.high)) (source_at (g.R.Rivals.rivalry l.rivals) l.word l.source)) → ⊥;
 }
 
 abbrev pub decreases-loop-low : goal.decreases-loop-low

@@ -4,7 +4,7 @@ use Rattle.order_solver.proofs.Testing.{opened, shut}
 use Rattle.order_solver.proofs.sides.is_open.Goals as goal
 
 pub returns-then-before : goal.returns-then-before
-returns-then-before c = sym (shut (edges_of c.args.graph.now) c.args.lasts.now c.args.source c.loop-last.last-index (omega arith) c.if-last-source.true (c.if-before.ensures.0 refl))
+returns-then-before c = sym (shut (edges_of c.args.graph.now) c.args.last_reads.now c.args.source c.loop-last.last-index (omega arith) c.if-last-source.true (c.if-before.ensures.0 refl))
 
 pub returns : goal.returns
-returns c = sym (opened (edges_of c.args.graph.now) c.args.lasts.now c.args.source c.acyclic_law.ensures (λ k l. c.loop-last.invariant k (omega arith)))
+returns c = sym (opened (edges_of c.args.graph.now) c.args.last_reads.now c.args.source c.acyclic_law.ensures (λ k l. c.loop-last.invariant k (omega arith)))

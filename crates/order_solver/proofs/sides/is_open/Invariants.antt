@@ -4,4 +4,4 @@ use Rattle.order_graph.specs.Graphs.{edges_of}
 use Rattle.order_solver.proofs.sides.is_open.Given as goal
 
 abbrev pub invariant-loop-last : goal.invariant-loop-last
-invariant-loop-last l = (k : ℕ) → k < l.last-index → (get_or l.lasts k 0 ≡ l.source) ⊎ (LeadsTo (edges_of l.graph) l.source (get_or l.lasts k 0) → ⊥)
+invariant-loop-last l = (k : ℕ) → k < l.last-index → (get_or l.last_reads k 0 ≡ l.source) ⊎ (LeadsTo (edges_of l.graph) l.source (get_or l.last_reads k 0) → ⊥)

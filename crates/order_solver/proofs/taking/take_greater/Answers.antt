@@ -1,5 +1,5 @@
 use Rattle.std.proofs.Common.{arith}
-use Rattle.order_solver.proofs.Nodes.{source-node, lasts-nodes}
+use Rattle.order_solver.proofs.Nodes.{source-node, last_reads-nodes}
 use Rattle.order_solver.proofs.taking.take_greater.Goals as goal
 
 pub take_side-requires-clause-source : goal.take_side-requires-clause-source
@@ -8,8 +8,8 @@ take_side-requires-clause-source g c =
     let b = c.requires.at.greater in
     source-node (g.R.Rivals.rivalry c.args.rivals.now) c.args.graph.now c.args.at.word c.args.at.lesser c.sources.result.now c.requires.rivals c.requires.counts c.requires.at.word (omega (arith, a, b)) c.sources.ensures
 
-pub take_side-requires-clause-lasts : goal.take_side-requires-clause-lasts
-take_side-requires-clause-lasts g c =
+pub take_side-requires-clause-last_reads : goal.take_side-requires-clause-last_reads
+take_side-requires-clause-last_reads g c =
     let a = c.requires.at.lesser in
     let b = c.requires.at.greater in
-    lasts-nodes (g.R.Rivals.rivalry c.args.rivals.now) c.args.graph.now c.args.at.word c.args.at.greater c.lasts.result.now c.requires.rivals c.requires.counts c.requires.at.word (omega (arith, a, b)) c.lasts.ensures
+    last_reads-nodes (g.R.Rivals.rivalry c.args.rivals.now) c.args.graph.now c.args.at.word c.args.at.greater c.last_reads.result.now c.requires.rivals c.requires.counts c.requires.at.word (omega (arith, a, b)) c.last_reads.ensures

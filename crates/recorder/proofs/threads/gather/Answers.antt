@@ -32,7 +32,7 @@ recorded-requires c =
     subst (λ (hands : List Progress). AreAllSteps c.args.words hands c.in_ok-cells.cells.items list) c.in_ok-hands.ensures.hands c.in_ok-cells.ensures.1 in
     let formed = formed-all c.args.program.now c.args.limits.now c.args.inputs.now c.args.words c.args.all.items c.requires.each c.requires.threads c.requires.start c.in_ok-cells.cells.items list steps
     c.words.ensures.rules c.entries.ensures.rules c.threads_count.ensures.rules.short in
-    let P : List ThreadLog → List Cell → Type 0 = λ logs cells. IsWellFormed (record { digest = no_digest; limits = c.args.limits.now; threads = logs; lasts = last_tags cells }) in
+    let P : List ThreadLog → List Cell → Type 0 = λ logs cells. IsWellFormed (record { digest = no_digest; limits = c.args.limits.now; threads = logs; last_tags = last_tags cells }) in
     subst (λ (logs : List ThreadLog). P logs c.deref.result.now) (sym c.in_ok-hands.ensures.logs) (subst (P (map log_in c.args.all.items)) (sym c.deref.ensures.value) formed)
 
 pub returns : goal.returns
@@ -42,7 +42,7 @@ returns c =
     subst (λ (hands : List Progress). AreAllSteps c.args.words hands c.in_ok-cells.cells.items list) c.in_ok-hands.ensures.hands c.in_ok-cells.ensures.1 in
     let whole = history-all c.args.program.now c.args.limits.now c.args.inputs.now c.args.words c.args.all.items c.requires.each c.requires.threads c.requires.start c.in_ok-cells.cells.items list steps in
     let made : List ThreadLog → List Report → List Cell → RecordedValue = λ logs reports cells.
-    record { log = record { digest = no_digest; limits = c.args.limits.now; threads = logs; lasts = last_tags cells }; reports = reports; finals = map (λ (cell : Cell). cell.value) cells } in
+    record { log = record { digest = no_digest; limits = c.args.limits.now; threads = logs; last_tags = last_tags cells }; reports = reports; last_values = map (λ (cell : Cell). cell.value) cells } in
     let is : made c.in_ok-hands.logs.items c.in_ok-hands.reports.items c.deref.result.now ≡ recorded_of c.args.program.now c.args.limits.now c.args.inputs.now (threads_in list) =
     ap (λ (logs : List ThreadLog). made logs c.in_ok-hands.reports.items c.deref.result.now) c.in_ok-hands.ensures.logs ∙
     ap (λ (reports : List Report). made (map log_in c.args.all.items) reports c.deref.result.now) c.in_ok-hands.ensures.reports ∙

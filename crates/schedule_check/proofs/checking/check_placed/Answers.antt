@@ -2,7 +2,7 @@ use Rattle.std.proofs.Common.{◌≡◌, ℕ, Some, None, Option, MatchOption, L
 use Rattle.order_judge.specs.declared.live_ranges.LiveRange.{LiveRange}
 use Rattle.order_judge.specs.LiveRanges.{IsFirstOverlap, AreApart}
 use Rattle.schedule_check.specs.Ranks.{rank_in, range_in}
-use Rattle.schedule_check.proofs.Stages.{placed-laid, entries-places, finals-places, entries-ranged, finals-ends, placed-few, ranges-few, ranges-words}
+use Rattle.schedule_check.proofs.Stages.{placed-laid, entries-places, last_tags-places, entries-ranged, last_tags-ends, placed-few, ranges-few, ranges-words}
 use Rattle.schedule_check.proofs.Verdicts.{IsOrdered, IsCleared, verdict_overtaken, verdict_early, verdict_crossed, verdict_final, verdict_fine}
 use Rattle.schedule_check.proofs.checking.check_placed.Goals as goal
 
@@ -53,14 +53,14 @@ returns-in-Some-2 c =
     (overlap_found c.in_ok-i.field-0 c.in-Some-2.i c.in-Some-2.j c.deref-3.ensures.value c.in_ok-i.ensures c.in-Some-2.is)
 
 pub ends_of-requires-clause-within : goal.ends_of-requires-clause-within
-ends_of-requires-clause-within c = finals-places c.args.log.now c.args.order.now c.args.events.now c.args.places.now c.deref-4.result.now c.requires.placed (c.deref-4.ensures.value ∙ c.in_ok-finals.ensures)
+ends_of-requires-clause-within c = last_tags-places c.args.log.now c.args.order.now c.args.events.now c.args.places.now c.deref-4.result.now c.requires.placed (c.deref-4.ensures.value ∙ c.in_ok-last_tags.ensures)
 
 pub first_too_long-requires-clause-words : goal.first_too_long-requires-clause-words
 first_too_long-requires-clause-words c =
     let laid = placed-laid c.args.log.now c.args.order.now c.args.events.now c.args.places.now c.requires.placed in
     ranges-words c.args.log.now c.args.order.now c.deref-5.result.now c.deref-6.result.now c.requires.placed.formed
     (entries-ranged c.args.log.now c.args.order.now c.args.places.now c.deref-2.result.now c.deref-5.result.now laid (c.deref-2.ensures.value ∙ c.in_ok-entries.ensures) (c.deref-5.ensures.value ∙ c.in_ok-ranges.ensures))
-    (finals-ends c.args.log.now c.args.order.now c.args.places.now c.deref-4.result.now c.deref-6.result.now laid (c.deref-4.ensures.value ∙ c.in_ok-finals.ensures) (c.deref-6.ensures.value ∙ c.in_ok-ends.ensures))
+    (last_tags-ends c.args.log.now c.args.order.now c.args.places.now c.deref-4.result.now c.deref-6.result.now laid (c.deref-4.ensures.value ∙ c.in_ok-last_tags.ensures) (c.deref-6.ensures.value ∙ c.in_ok-ends.ensures))
 
 pub first_too_long-requires-clause-few : goal.first_too_long-requires-clause-few
 first_too_long-requires-clause-few c =
@@ -76,15 +76,15 @@ returns-in-Some-first_too_long c =
       listed = c.in_ok-entries.ensures;
       timely = rw c.deref.ensures.value at c.in_default-first_untimely.ensures;
     } in
-    let k : IsCleared c.args.log.now c.args.order.now c.args.events.now c.args.places.now c.in_ok-entries.entries.items c.in_ok-ranges.ranges.items c.in_ok-finals.finals.items c.in_ok-ends.ends.items = record {
+    let k : IsCleared c.args.log.now c.args.order.now c.args.events.now c.args.places.now c.in_ok-entries.entries.items c.in_ok-ranges.ranges.items c.in_ok-last_tags.last_tags.items c.in_ok-ends.ends.items = record {
       ordered = o;
       ranged = c.in_ok-ranges.ensures ∙ ap (map (range_in c.args.places.now)) c.deref-2.ensures.value;
       apart = overlap_none c.in_ok-i.field-0 c.deref-3.ensures.value c.in_ok-i.ensures c.in_default-2.not-Some;
-      listed = c.in_ok-finals.ensures;
+      listed = c.in_ok-last_tags.ensures;
       ended = c.in_ok-ends.ensures ∙ ap (map (rank_in c.args.places.now)) c.deref-4.ensures.value;
     } in
     c.fault-in-Some-first_too_long.ensures ∙
-    verdict_final c.args.log.now c.args.order.now c.args.events.now c.args.places.now c.in_ok-entries.entries.items c.in_ok-ranges.ranges.items c.in_ok-finals.finals.items c.in_ok-ends.ends.items c.in-Some-first_too_long.word c.in-Some-first_too_long.i k
+    verdict_final c.args.log.now c.args.order.now c.args.events.now c.args.places.now c.in_ok-entries.entries.items c.in_ok-ranges.ranges.items c.in_ok-last_tags.last_tags.items c.in_ok-ends.ends.items c.in-Some-first_too_long.word c.in-Some-first_too_long.i k
     (rw c.deref-6.ensures.value at (rw c.deref-5.ensures.value at c.in-Some-first_too_long.ensures))
 
 pub returns : goal.returns
@@ -95,12 +95,12 @@ returns c =
       listed = c.in_ok-entries.ensures;
       timely = rw c.deref.ensures.value at c.in_default-first_untimely.ensures;
     } in
-    let k : IsCleared c.args.log.now c.args.order.now c.args.events.now c.args.places.now c.in_ok-entries.entries.items c.in_ok-ranges.ranges.items c.in_ok-finals.finals.items c.in_ok-ends.ends.items = record {
+    let k : IsCleared c.args.log.now c.args.order.now c.args.events.now c.args.places.now c.in_ok-entries.entries.items c.in_ok-ranges.ranges.items c.in_ok-last_tags.last_tags.items c.in_ok-ends.ends.items = record {
       ordered = o;
       ranged = c.in_ok-ranges.ensures ∙ ap (map (range_in c.args.places.now)) c.deref-2.ensures.value;
       apart = overlap_none c.in_ok-i.field-0 c.deref-3.ensures.value c.in_ok-i.ensures c.in_default-2.not-Some;
-      listed = c.in_ok-finals.ensures;
+      listed = c.in_ok-last_tags.ensures;
       ended = c.in_ok-ends.ensures ∙ ap (map (rank_in c.args.places.now)) c.deref-4.ensures.value;
     } in
-    verdict_fine c.args.log.now c.args.order.now c.args.events.now c.args.places.now c.in_ok-entries.entries.items c.in_ok-ranges.ranges.items c.in_ok-finals.finals.items c.in_ok-ends.ends.items k
+    verdict_fine c.args.log.now c.args.order.now c.args.events.now c.args.places.now c.in_ok-entries.entries.items c.in_ok-ranges.ranges.items c.in_ok-last_tags.last_tags.items c.in_ok-ends.ends.items k
     (rw c.deref-6.ensures.value at (rw c.deref-5.ensures.value at c.in_default-first_too_long.ensures))

@@ -28,13 +28,13 @@ base_edges-requires-clause-sources c =
     let s = c.in_ok-sources.ensures c.args.log.now (ap length c.finals.ensures.value) (subst Q (sym c.deref-5.ensures.value) k) in
     words-rowed c.args.log.now c.deref-10.result.now c.in_ok-sources.sources f (c.deref-10.ensures.value ∙ c.in_ok-placed.ensures) s
 
-pub base_edges-requires-clause-finals : goal.base_edges-requires-clause-finals
-base_edges-requires-clause-finals c =
-    words-within c.args.log.now c.deref-10.result.now c.deref-11.result.now c.threads.ensures.rules (c.deref-10.ensures.value ∙ c.in_ok-placed.ensures) (c.deref-11.ensures.value ∙ c.in_ok-finals.ensures)
+pub base_edges-requires-clause-last_tags : goal.base_edges-requires-clause-last_tags
+base_edges-requires-clause-last_tags c =
+    words-within c.args.log.now c.deref-10.result.now c.deref-11.result.now c.threads.ensures.rules (c.deref-10.ensures.value ∙ c.in_ok-placed.ensures) (c.deref-11.ensures.value ∙ c.in_ok-last_tags.ensures)
 
 pub is_impossible-requires : goal.is_impossible-requires
 is_impossible-requires c =
-    words-within c.args.log.now c.deref-12.result.now c.deref-13.result.now c.threads.ensures.rules (c.deref-12.ensures.value ∙ c.in_ok-placed.ensures) (c.deref-13.ensures.value ∙ c.in_ok-finals.ensures)
+    words-within c.args.log.now c.deref-12.result.now c.deref-13.result.now c.threads.ensures.rules (c.deref-12.ensures.value ∙ c.in_ok-placed.ensures) (c.deref-13.ensures.value ∙ c.in_ok-last_tags.ensures)
 
 pub invariant_of-result : goal.invariant_of-result
 invariant_of-result c =
@@ -44,15 +44,15 @@ invariant_of-result c =
     let r = c.in_ok-reads.ensures.reads c.args.log.now f (c.deref-3.ensures.value ∙ c.in_ok-placed.ensures) in
     let k = c.in_ok-keys.ensures.keys c.args.log.now f (subst P (sym c.deref-4.ensures.value) r) in
     let s = c.in_ok-sources.ensures c.args.log.now (ap length c.finals.ensures.value) (subst Q (sym c.deref-5.ensures.value) k) in
-    let l = c.in_ok-lasts.ensures c.args.log.now f (subst Q (sym c.deref-6.ensures.value) k) (subst P (sym c.deref-7.ensures.value) r) in
+    let l = c.in_ok-last_reads.ensures c.args.log.now f (subst Q (sym c.deref-6.ensures.value) k) (subst P (sym c.deref-7.ensures.value) r) in
     let e = c.in_ok-events.ensures.value in
     seen (sym c.of.ensures) (record {
       formed = f;
       listed = e;
       begun = starts-of c.args.log.now c.in_ok-starts.starts.items c.deref-8.result.now (length c.threads.result.now) c.in_ok-starts.ensures (c.deref-8.ensures.value ∙ e) (ap length c.threads.ensures.value);
       counted = counts-of c.args.log.now c.in_ok-counts.counts.items c.deref-9.result.now (length c.threads.result.now) c.in_ok-counts.ensures (c.deref-9.ensures.value ∙ e) (ap length c.threads.ensures.value);
-      edges = base-of c.args.log.now c.in_ok-base.base.items c.deref-10.result.now c.deref-11.result.now c.in_ok-sources.sources f c.in_ok-base.ensures (c.deref-10.ensures.value ∙ c.in_ok-placed.ensures) (c.deref-11.ensures.value ∙ c.in_ok-finals.ensures) s;
+      edges = base-of c.args.log.now c.in_ok-base.base.items c.deref-10.result.now c.deref-11.result.now c.in_ok-sources.sources f c.in_ok-base.ensures (c.deref-10.ensures.value ∙ c.in_ok-placed.ensures) (c.deref-11.ensures.value ∙ c.in_ok-last_tags.ensures) s;
       written = s;
       read = l;
-      never = never-of c.args.log.now c.is_impossible.result c.deref-12.result.now c.deref-13.result.now f c.is_impossible.ensures (c.deref-12.ensures.value ∙ c.in_ok-placed.ensures) (c.deref-13.ensures.value ∙ c.in_ok-finals.ensures);
+      never = never-of c.args.log.now c.is_impossible.result c.deref-12.result.now c.deref-13.result.now f c.is_impossible.ensures (c.deref-12.ensures.value ∙ c.in_ok-placed.ensures) (c.deref-13.ensures.value ∙ c.in_ok-last_tags.ensures);
     })

@@ -1,10 +1,9 @@
-use Rattle.std.proofs.Common.{Option, List, ℕ, ◌≡◌, ◌<◌, ◌≤◌, true, Some, Bor, slice_get, length, refl, sym, ◌∙◌, ap, subst, arith}
+use Rattle.std.proofs.Common.{Option, List, ℕ, ◌≡◌, ◌<◌, ◌≤◌, Some, Bor, length, refl, sym, ◌∙◌, ap, subst, arith}
 use Rattle.replay_model.specs.declared.Want.{Want}
 use Rattle.machine.specs.declared.program.Instr.{Instr}
-use Rattle.machine.specs.Programs.{code_of}
-use Rattle.machine.specs.Cores.{State, IsState, is_memory, run_on}
+use Rattle.machine.specs.Cores.{State, IsState, run_of}
 use Rattle.machine.proofs.Going.{under_way}
-use Rattle.machine.specs.Turns.{bounds_of, IsCourse}
+use Rattle.machine.specs.Turns.{bounds_of, IsAtMemory, IsCourse}
 use Rattle.machine.specs.contracts.cores.Core.{the_view}
 use Rattle.machine.proofs.Keeps.{instr_at, names_registers, run_on-is_state}
 use Rattle.machine.proofs.Turning.{ok_there, err_there}
@@ -37,7 +36,7 @@ returns-then-is_err-clause-err c =
     (subst (λ (n : State). n ≡ record there { registers = n.registers; place = n.place; instr = n.instr }) c.self.view_is refl) in
     under_way c.args.program.now c.args.limits.now c.args.inputs.now c.args.full c.args.self.now c.run_on.new.self c.requires.none c.requires.fresh rest
     (walked c.args.program.now c.args.limits.now c.args.inputs.now c.args.full course c.go_along-way.new.registers way.place way.instr s c.args.self.now c.self.view_is is c.go_along-way.ensures.same ∙
-    ap (λ (n : State). run_on (code_of c.args.program.now n.thread) (length c.args.program.now.words) c.args.limits.now c.args.inputs.now c.args.full n) (sym stays))
+    ap (λ (n : State). run_of c.args.program.now c.args.limits.now c.args.inputs.now c.args.full n) (sym stays))
 
 pub returns-then-is_err-clause-memory : goal.returns-then-is_err-clause-memory
 returns-then-is_err-clause-memory c =
@@ -54,14 +53,14 @@ returns-then-is_err-clause-memory c =
 
 pub memory_step-requires-clause-fields : goal.memory_step-requires-clause-fields
 memory_step-requires-clause-fields c =
-    let m = holds_there c.go_along-way.result.memory (λ (i : Bor Instr). (slice_get c.course-course.result.code.now c.go_along-way.result.place ≡ Some i.now) × (is_memory i.now.op ≡ true) × (c.go_along-way.result.instr < c.course-course.result.most_instr))
+    let m = holds_there c.go_along-way.result.memory (λ (i : Bor Instr). IsAtMemory c.course-course.result c.go_along-way.result i.now)
     c.in-Some.i c.in-Some.is c.go_along-way.ensures.memory in
     let code = c.course-course.result.code.now in
     names_registers (length code) c.in-Some.i.now (instr_at code c.go_along-way.result.place c.in-Some.i.now c.course-course.ensures.rules m.0)
 
 pub invariant_of-self-3 : goal.invariant_of-self-3
 invariant_of-self-3 c =
-    let m = holds_there c.go_along-way.result.memory (λ (i : Bor Instr). (slice_get c.course-course.result.code.now c.go_along-way.result.place ≡ Some i.now) × (is_memory i.now.op ≡ true) × (c.go_along-way.result.instr < c.course-course.result.most_instr))
+    let m = holds_there c.go_along-way.result.memory (λ (i : Bor Instr). IsAtMemory c.course-course.result c.go_along-way.result i.now)
     c.in-Some.i c.in-Some.is c.go_along-way.ensures.memory in
     let s = the_view c.self.inside in
     let way = c.go_along-way.result in
@@ -80,7 +79,7 @@ invariant_of-self-3 c =
 
 pub returns-clause-ok : goal.returns-clause-ok
 returns-clause-ok c =
-    let m = holds_there c.go_along-way.result.memory (λ (i : Bor Instr). (slice_get c.course-course.result.code.now c.go_along-way.result.place ≡ Some i.now) × (is_memory i.now.op ≡ true) × (c.go_along-way.result.instr < c.course-course.result.most_instr))
+    let m = holds_there c.go_along-way.result.memory (λ (i : Bor Instr). IsAtMemory c.course-course.result c.go_along-way.result i.now)
     c.in-Some.i c.in-Some.is c.go_along-way.ensures.memory in
     let s = the_view c.self.inside in
     let way = c.go_along-way.result in

@@ -1,6 +1,5 @@
 use Rattle.std.proofs.Common.{List, ℕ, ◌≤◌, length, refl, sym, ◌∙◌, ap, subst, arith}
-use Rattle.machine.specs.Cores.{State, IsState, run_on}
-use Rattle.machine.specs.Programs.{code_of}
+use Rattle.machine.specs.Cores.{State, IsState, run_of, run_on}
 use Rattle.machine.specs.Turns.{bounds_of, rested, IsCourse}
 use Rattle.machine.specs.contracts.cores.Core.{the_view}
 use Rattle.machine.proofs.Keeps.{run_on-is_state}
@@ -27,7 +26,7 @@ returns-in-Ok-clause-ok c =
     subst (λ (x : State). IsCourse c.args.program.now c.args.limits.now c.args.inputs.now c.args.full x course) (sym c.self.view_is) c.course-course.ensures in (
       sym (settles c.args.program.now c.args.limits.now c.args.inputs.now c.args.full s course is (λ n. rested s c.run.new.registers c.run.new.output.items n c.in-Ok.rest) (c.in-Ok.ensures.ok s)) ∙
           course_runs c.args.program.now c.args.limits.now c.args.inputs.now c.args.full s course is s ∙
-          ap (λ (n : State). run_on (code_of c.args.program.now n.thread) (length c.args.program.now.words) c.args.limits.now c.args.inputs.now c.args.full n) c.self.view_is,
+          ap (λ (n : State). run_of c.args.program.now c.args.limits.now c.args.inputs.now c.args.full n) c.self.view_is,
       refl,
     )
 
@@ -39,7 +38,7 @@ returns-in-Err-clause-memory c =
     subst (λ (x : State). IsCourse c.args.program.now c.args.limits.now c.args.inputs.now c.args.full x course) (sym c.self.view_is) c.course-course.ensures in
     let e = ap (λ (n : ℕ). length (run_on course.code.now course.words (bounds_of course) course.inputs.now course.full (record s { steps = n })).output) is.steps in
     let f = ap (λ (n : State). length n.output) (course_runs c.args.program.now c.args.limits.now c.args.inputs.now c.args.full s course is s) in
-    let h = ap (λ (n : State). length (run_on (code_of c.args.program.now n.thread) (length c.args.program.now.words) c.args.limits.now c.args.inputs.now c.args.full n).output) c.self.view_is in
+    let h = ap (λ (n : State). length (run_of c.args.program.now c.args.limits.now c.args.inputs.now c.args.full n).output) c.self.view_is in
     let b = ap (λ (n : State). length n.output) c.self.view_is in
     let d = c.in-Err.ensures.err s in
     omega (arith, e, f, h, b, d)

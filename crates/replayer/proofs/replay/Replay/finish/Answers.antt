@@ -1,39 +1,36 @@
-use Rattle.std.proofs.Common.{◌≡◌, List, ◌++◌, take, drop, length, sym, subst, ◌∙◌}
+use Rattle.std.proofs.Common.{◌≡◌, List, ◌++◌, take, drop, length, sym, subst}
 use Rattle.std.specs.Prelude.{All, IfOk}
 use Rattle.replay_model.specs.Steps.{Cell}
-use Rattle.replayer.specs.declared.seat.Seat.{Seat}
+use Rattle.running_thread.specs.declared.thread.RunningThread.{RunningThread}
 use Rattle.replayer.specs.Replays.{Replaying, ended}
 use Rattle.replayer.specs.Verdicts.{IsVerdict}
 use Rattle.replayer.specs.Seats.{HasEnded, IsAnswer}
-use Rattle.replayer.proofs.Finishing.{cells-back, seats-back, ends-all, verdict-of}
+use Rattle.replayer.proofs.Finishing.{seats-back, ends-all, verdict-of}
 use Rattle.replayer.proofs.Exactness.{if-ok, exact-by-order}
 use Rattle.replayer.proofs.replay.Replay.finish.Goals as goal
 
 pub answer-requires-clause-ended : goal.answer-requires-clause-ended
 answer-requires-clause-ended c =
     let r : Replaying = record { program = c.self.inside.program.now; log = c.self.inside.log.now; turns = c.self.inside.turns.items } in
-    subst (All HasEnded) (sym (seats-back r c.self.inside.cells.items c.deref_mut.result.now c.self.inside.seats.items c.deref_mut-2.result.now c.run_out.new.cells c.run_out.new.seats c.self.invariant c.deref_mut.ensures.value c.deref_mut-2.ensures.value c.in_ok-run_out.ensures.shown c.in_ok-run_out.ensures.settled _ c.deref_mut-2.ensures.len))
-    (ends-all r c.self.inside.cells.items c.deref_mut.result.now c.self.inside.seats.items c.deref_mut-2.result.now c.run_out.new.cells c.run_out.new.seats c.self.invariant c.deref_mut.ensures.value c.deref_mut-2.ensures.value c.in_ok-run_out.ensures.shown c.in_ok-run_out.ensures.settled)
+    subst (All HasEnded) (sym (seats-back r c.self.inside.words c.self.inside.seats.items c.deref_mut.result.now c.run_out.new.words c.run_out.new.seats c.self.invariant c.deref_mut.ensures.value c.in_ok-run_out.ensures.shown c.in_ok-run_out.ensures.settled _ c.deref_mut.ensures.len)) (ends-all r c.self.inside.words c.self.inside.seats.items c.deref_mut.result.now c.run_out.new.words c.run_out.new.seats c.self.invariant c.deref_mut.ensures.value c.in_ok-run_out.ensures.shown c.in_ok-run_out.ensures.settled)
 
 pub returns-clause-verdict : goal.returns-clause-verdict
 returns-clause-verdict c =
     let r : Replaying = record { program = c.self.inside.program.now; log = c.self.inside.log.now; turns = c.self.inside.turns.items } in
     let P : List Cell → Type 0 = λ cells. IfOk c.answer.result (IsAnswer r.log cells (take c.self.inside.seats.len (c.run_out.new.seats ++ drop (length c.run_out.new.seats) c.self.inside.seats.items))) in
-    let Q : List Seat → Type 0 = λ seats. IfOk c.answer.result (IsAnswer r.log c.run_out.new.cells seats) in
-    let answered : IfOk c.answer.result (IsAnswer r.log c.run_out.new.cells c.run_out.new.seats) =
-    subst Q (seats-back r c.self.inside.cells.items c.deref_mut.result.now c.self.inside.seats.items c.deref_mut-2.result.now c.run_out.new.cells c.run_out.new.seats c.self.invariant c.deref_mut.ensures.value c.deref_mut-2.ensures.value c.in_ok-run_out.ensures.shown c.in_ok-run_out.ensures.settled _ c.deref_mut-2.ensures.len)
-    (subst P (c.deref.ensures.value ∙ cells-back r c.self.inside.cells.items c.deref_mut.result.now c.self.inside.seats.items c.deref_mut-2.result.now c.run_out.new.cells c.run_out.new.seats c.self.invariant c.deref_mut.ensures.value c.deref_mut-2.ensures.value c.in_ok-run_out.ensures.shown c.in_ok-run_out.ensures.settled _ c.deref_mut.ensures.len) c.answer.ensures) in
-    if-ok (IsAnswer r.log c.run_out.new.cells c.run_out.new.seats) (IsVerdict c.args.self.program c.args.self.log (ended c.args.self)) c.answer.result
-    (λ replayed h. verdict-of r c.self.inside.cells.items c.deref_mut.result.now c.self.inside.seats.items c.deref_mut-2.result.now c.run_out.new.cells c.run_out.new.seats c.self.invariant c.deref_mut.ensures.value c.deref_mut-2.ensures.value c.in_ok-run_out.ensures.shown c.in_ok-run_out.ensures.settled c.args.self replayed c.self.view_is h) answered
+    let Q : List RunningThread → Type 0 = λ seats. IfOk c.answer.result (IsAnswer r.log c.run_out.new.words.cells.items seats) in
+    let answered : IfOk c.answer.result (IsAnswer r.log c.run_out.new.words.cells.items c.run_out.new.seats) =
+    subst Q (seats-back r c.self.inside.words c.self.inside.seats.items c.deref_mut.result.now c.run_out.new.words c.run_out.new.seats c.self.invariant c.deref_mut.ensures.value c.in_ok-run_out.ensures.shown c.in_ok-run_out.ensures.settled _ c.deref_mut.ensures.len) (subst P c.deref.ensures.value c.answer.ensures) in
+    if-ok (IsAnswer r.log c.run_out.new.words.cells.items c.run_out.new.seats) (IsVerdict c.args.self.program c.args.self.log (ended c.args.self)) c.answer.result
+    (λ replayed h. verdict-of r c.self.inside.words c.self.inside.seats.items c.deref_mut.result.now c.run_out.new.words c.run_out.new.seats c.self.invariant c.deref_mut.ensures.value c.in_ok-run_out.ensures.shown c.in_ok-run_out.ensures.settled c.args.self replayed c.self.view_is h) answered
 
 pub returns-clause-exact : goal.returns-clause-exact
 returns-clause-exact c =
     let r : Replaying = record { program = c.self.inside.program.now; log = c.self.inside.log.now; turns = c.self.inside.turns.items } in
     let P : List Cell → Type 0 = λ cells. IfOk c.answer.result (IsAnswer r.log cells (take c.self.inside.seats.len (c.run_out.new.seats ++ drop (length c.run_out.new.seats) c.self.inside.seats.items))) in
-    let Q : List Seat → Type 0 = λ seats. IfOk c.answer.result (IsAnswer r.log c.run_out.new.cells seats) in
-    let answered : IfOk c.answer.result (IsAnswer r.log c.run_out.new.cells c.run_out.new.seats) =
-    subst Q (seats-back r c.self.inside.cells.items c.deref_mut.result.now c.self.inside.seats.items c.deref_mut-2.result.now c.run_out.new.cells c.run_out.new.seats c.self.invariant c.deref_mut.ensures.value c.deref_mut-2.ensures.value c.in_ok-run_out.ensures.shown c.in_ok-run_out.ensures.settled _ c.deref_mut-2.ensures.len)
-    (subst P (c.deref.ensures.value ∙ cells-back r c.self.inside.cells.items c.deref_mut.result.now c.self.inside.seats.items c.deref_mut-2.result.now c.run_out.new.cells c.run_out.new.seats c.self.invariant c.deref_mut.ensures.value c.deref_mut-2.ensures.value c.in_ok-run_out.ensures.shown c.in_ok-run_out.ensures.settled _ c.deref_mut.ensures.len) c.answer.ensures) in
+    let Q : List RunningThread → Type 0 = λ seats. IfOk c.answer.result (IsAnswer r.log c.run_out.new.words.cells.items seats) in
+    let answered : IfOk c.answer.result (IsAnswer r.log c.run_out.new.words.cells.items c.run_out.new.seats) =
+    subst Q (seats-back r c.self.inside.words c.self.inside.seats.items c.deref_mut.result.now c.run_out.new.words c.run_out.new.seats c.self.invariant c.deref_mut.ensures.value c.in_ok-run_out.ensures.shown c.in_ok-run_out.ensures.settled _ c.deref_mut.ensures.len) (subst P c.deref.ensures.value c.answer.ensures) in
     let counted : length c.args.self.program.threads ≡ length c.args.self.log.threads = subst (λ (x : Replaying). length x.program.threads ≡ length x.log.threads) c.self.view_is c.self.invariant.threads in
-    if-ok (IsAnswer r.log c.run_out.new.cells c.run_out.new.seats) _ c.answer.result
-    (λ replayed h. exact-by-order c.args.self replayed counted (verdict-of r c.self.inside.cells.items c.deref_mut.result.now c.self.inside.seats.items c.deref_mut-2.result.now c.run_out.new.cells c.run_out.new.seats c.self.invariant c.deref_mut.ensures.value c.deref_mut-2.ensures.value c.in_ok-run_out.ensures.shown c.in_ok-run_out.ensures.settled c.args.self replayed c.self.view_is h)) answered
+    if-ok (IsAnswer r.log c.run_out.new.words.cells.items c.run_out.new.seats) _ c.answer.result
+    (λ replayed h. exact-by-order c.args.self replayed counted (verdict-of r c.self.inside.words c.self.inside.seats.items c.deref_mut.result.now c.run_out.new.words c.run_out.new.seats c.self.invariant c.deref_mut.ensures.value c.in_ok-run_out.ensures.shown c.in_ok-run_out.ensures.settled c.args.self replayed c.self.view_is h)) answered

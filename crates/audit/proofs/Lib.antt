@@ -1,0 +1,10 @@
+mod Listed
+mod Writes
+mod Keeping
+mod Solving
+mod Placings
+mod Legal
+mod Going
+mod Thinning
+mod Reading
+mod WorkedExamples

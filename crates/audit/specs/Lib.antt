@@ -1,0 +1,6 @@
+pub mod Positions
+pub mod Constraints
+pub mod Judging
+pub mod PlacingLaws
+pub mod LegalLaws
+pub mod Examples

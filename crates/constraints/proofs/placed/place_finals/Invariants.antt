@@ -1,7 +1,0 @@
-use Rattle.std.proofs.Common.{◌≡◌, map, take, option_map}
-use Rattle.replay_model.specs.Orders.{place}
-use Rattle.constraints.specs.Positions.{event_list}
-use Rattle.constraints.proofs.placed.place_finals.Given as goal
-
-abbrev pub invariant-loop-tag : goal.invariant-loop-tag
-invariant-loop-tag l = l.finals.items ≡ map (option_map (place (event_list l.log))) (take l.tag-index l.tags)

@@ -1,0 +1,11 @@
+pub mod Decided
+mod Sides
+mod Adding
+mod Based
+mod Shuts
+mod Ranges
+mod Tabled
+mod Fronts
+mod Totals
+mod Listing
+mod Opened

@@ -1,0 +1,6 @@
+pub mod Laws
+pub mod Narrowing
+pub mod Shut
+pub mod Tables
+pub mod Openings
+pub mod Texts

@@ -1,0 +1,31 @@
+// The words of a replay: of the writes, those are made that the log names.
+use crate::kept_steps::KeptSteps;
+use light_base::{Cell, Event};
+use machine::Want;
+use running_thread::StepWords;
+use running_thread::cells::{found_in, word_of, write, written};
+
+/// The words, and for each thread the steps whose writes are still to be made.
+#[derive(Drop)]
+pub(crate) struct ReplayWords {
+    pub(crate) cells: Vec<Cell>,
+    pub(crate) kept: Vec<KeptSteps>,
+}
+
+impl StepWords for ReplayWords {
+    ghost use Rattle.replayer.specs.Words.{IsReady, Takes};
+
+    ghost ready = { IsReady };
+
+    ghost takes = { Takes };
+
+    #[inline(always)]
+    fn take(&mut self, event: Event, want: &Want) -> Option<Cell> {
+        let found = found_in(&self.cells, want);
+        let value = written(want, &found);
+        let kept = &mut self.kept[usize::from(event.thread)];
+        let made = kept.takes(event.step);
+        write(&mut self.cells, made, word_of(want), event, value);
+        found
+    }
+}

@@ -1,0 +1,7 @@
+//! A replay that stops at a step: how far each thread has to go for it, and how a thread stands right after it.
+#![tactic(auto)]
+
+mod cut;
+pub mod laws;
+
+pub use cut::cut_of;

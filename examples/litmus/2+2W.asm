@@ -1,0 +1,29 @@
+; 2+2W: two threads write the same two words in opposite orders. Not both first writes can last.
+; Forbidden: [x]=1 /\ [y]=1
+; A round's words: x y go0 go1
+
+.words 400                  ; for a hundred rounds, each on words of its own
+
+.thread
+        set   r10 1
+        set   r11 2
+        set   r14 400       ; the words of all rounds
+round:  store r10 r12 2     ; the barrier: this thread is here ...
+wait:   load  r9 r12 3      ; ... and waits for the other one
+        jeq   r9 r0 wait
+        store r10 r12 0     ; x = 1
+        store r11 r12 1     ; y = 2
+        addi  r12 r12 4     ; the next round
+        jlt   r12 r14 round
+
+.thread
+        set   r10 1
+        set   r11 2
+        set   r14 400       ; the words of all rounds
+round:  store r10 r12 3
+wait:   load  r9 r12 2
+        jeq   r9 r0 wait
+        store r10 r12 1     ; y = 1
+        store r11 r12 0     ; x = 2
+        addi  r12 r12 4
+        jlt   r12 r14 round

@@ -1,0 +1,67 @@
+; IRIW (independent reads of independent writes): two readers never see two writes in opposite orders.
+; Forbidden: 1:r1=1 /\ 1:r2=0 /\ 3:r1=1 /\ 3:r2=0
+; A round's words: x y go0 go1 go2 go3
+
+.words 600                  ; for a hundred rounds, each on words of its own
+
+.thread
+        set   r10 1
+        set   r14 600       ; the words of all rounds
+round:  store r10 r12 2     ; the barrier: this thread is here ...
+wait1:  load  r9 r12 3      ; ... and waits for the others
+        jeq   r9 r0 wait1
+wait2:  load  r9 r12 4
+        jeq   r9 r0 wait2
+wait3:  load  r9 r12 5
+        jeq   r9 r0 wait3
+        store r10 r12 0     ; x = 1
+        addi  r12 r12 6     ; the next round
+        jlt   r12 r14 round
+
+.thread
+        set   r10 1
+        set   r14 600       ; the words of all rounds
+round:  store r10 r12 3
+wait0:  load  r9 r12 2
+        jeq   r9 r0 wait0
+wait2:  load  r9 r12 4
+        jeq   r9 r0 wait2
+wait3:  load  r9 r12 5
+        jeq   r9 r0 wait3
+        load  r1 r12 0      ; r1 = x
+        load  r2 r12 1      ; r2 = y
+        out   r1
+        out   r2
+        addi  r12 r12 6
+        jlt   r12 r14 round
+
+.thread
+        set   r10 1
+        set   r14 600       ; the words of all rounds
+round:  store r10 r12 4
+wait0:  load  r9 r12 2
+        jeq   r9 r0 wait0
+wait1:  load  r9 r12 3
+        jeq   r9 r0 wait1
+wait3:  load  r9 r12 5
+        jeq   r9 r0 wait3
+        store r10 r12 1     ; y = 1
+        addi  r12 r12 6
+        jlt   r12 r14 round
+
+.thread
+        set   r10 1
+        set   r14 600       ; the words of all rounds
+round:  store r10 r12 5
+wait0:  load  r9 r12 2
+        jeq   r9 r0 wait0
+wait1:  load  r9 r12 3
+        jeq   r9 r0 wait1
+wait2:  load  r9 r12 4
+        jeq   r9 r0 wait2
+        load  r1 r12 1      ; r1 = y
+        load  r2 r12 0      ; r2 = x
+        out   r1
+        out   r2
+        addi  r12 r12 6
+        jlt   r12 r14 round

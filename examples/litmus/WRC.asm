@@ -1,0 +1,46 @@
+; WRC (from a write to a read): the second thread hands on what it has seen, and the third sees it too.
+; Forbidden: 1:r1=1 /\ 2:r1=1 /\ 2:r2=0
+; A round's words: x y go0 go1 go2
+
+.words 500                  ; for a hundred rounds, each on words of its own
+
+.thread
+        set   r10 1
+        set   r14 500       ; the words of all rounds
+round:  store r10 r12 2     ; the barrier: this thread is here ...
+wait1:  load  r9 r12 3      ; ... and waits for the others
+        jeq   r9 r0 wait1
+wait2:  load  r9 r12 4
+        jeq   r9 r0 wait2
+        store r10 r12 0     ; x = 1
+        addi  r12 r12 5     ; the next round
+        jlt   r12 r14 round
+
+.thread
+        set   r10 1
+        set   r14 500       ; the words of all rounds
+round:  store r10 r12 3
+wait0:  load  r9 r12 2
+        jeq   r9 r0 wait0
+wait2:  load  r9 r12 4
+        jeq   r9 r0 wait2
+        load  r1 r12 0      ; r1 = x
+        store r10 r12 1     ; y = 1
+        out   r1
+        addi  r12 r12 5
+        jlt   r12 r14 round
+
+.thread
+        set   r10 1
+        set   r14 500       ; the words of all rounds
+round:  store r10 r12 4
+wait0:  load  r9 r12 2
+        jeq   r9 r0 wait0
+wait1:  load  r9 r12 3
+        jeq   r9 r0 wait1
+        load  r1 r12 1      ; r1 = y
+        load  r2 r12 0      ; r2 = x
+        out   r1
+        out   r2
+        addi  r12 r12 5
+        jlt   r12 r14 round
