@@ -13,7 +13,7 @@ mod inputs;
 mod logs;
 mod orders;
 mod outputs;
-mod races;
+mod race_lists;
 mod recordings;
 mod replays;
 mod rows;
@@ -146,12 +146,15 @@ fn logs_are_replayed(rt: HostRuntime) -> Result<(), Fail> {
 #[test]
 fn races_are_listed(rt: HostRuntime) -> Result<(), Fail> {
     let alloc = rt.alloc();
-    for table in [races::LISTED.as_slice(), races::STOPPED.as_slice()] {
+    for table in [
+        race_lists::LISTED.as_slice(),
+        race_lists::STOPPED.as_slice(),
+    ] {
         for row in table {
             check(&rt, alloc, row)?;
         }
     }
-    races::list_many(&rt, alloc)
+    race_lists::list_many(&rt, alloc)
 }
 
 #[test]
