@@ -10,6 +10,7 @@ mod faults;
 mod gates;
 mod histories;
 mod inputs;
+mod litmus;
 mod logs;
 mod orders;
 mod outputs;
@@ -29,12 +30,24 @@ use contents::Content;
 use rows::{Row, check};
 
 #[test]
-fn commands_end_as_told(rt: HostRuntime) -> Result<(), Fail> {
+fn images_are_played(rt: HostRuntime) -> Result<(), Fail> {
     let alloc = rt.alloc();
     for table in [
         runs::PLAYED.as_slice(),
         runs::REFUSED.as_slice(),
         runs::FAULTS.as_slice(),
+    ] {
+        for row in table {
+            check(&rt, alloc, row)?;
+        }
+    }
+    Ok(())
+}
+
+#[test]
+fn commands_end_as_told(rt: HostRuntime) -> Result<(), Fail> {
+    let alloc = rt.alloc();
+    for table in [
         recordings::RECORDED.as_slice(),
         recordings::FAULTS.as_slice(),
         texts::ASSEMBLED.as_slice(),
@@ -205,6 +218,15 @@ fn threads_pass_the_gate(rt: HostRuntime) -> Result<(), Fail> {
     let alloc = rt.alloc();
     for row in &gates::GATED {
         gates::pass(&rt, alloc, row)?;
+    }
+    Ok(())
+}
+
+#[test]
+fn litmus_tests_hold(rt: HostRuntime) -> Result<(), Fail> {
+    let alloc = rt.alloc();
+    for test in &litmus::LITMUS {
+        litmus::play(&rt, alloc, test)?;
     }
     Ok(())
 }
