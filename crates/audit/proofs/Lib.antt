@@ -7,4 +7,5 @@ mod Legal
 mod Going
 mod Thinning
 mod Reading
+mod Gathered
 mod WorkedExamples

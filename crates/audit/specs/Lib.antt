@@ -4,3 +4,4 @@ pub mod Judging
 pub mod PlacingLaws
 pub mod LegalLaws
 pub mod Examples
+pub mod Gathering

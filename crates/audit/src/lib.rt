@@ -4,7 +4,9 @@
 pub mod examples;
 mod judging;
 pub mod laws;
+mod placed;
 mod turns;
 
 pub use judging::Audit;
+pub use placed::{Written, is_impossible, list_placed};
 pub use turns::turns_of;
