@@ -8,4 +8,5 @@ mod Going
 mod Thinning
 mod Reading
 mod Gathered
+mod Rivaling
 mod WorkedExamples

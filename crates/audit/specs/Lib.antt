@@ -5,3 +5,4 @@ pub mod PlacingLaws
 pub mod LegalLaws
 pub mod Examples
 pub mod Gathering
+pub mod Rivalries
