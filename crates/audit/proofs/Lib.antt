@@ -9,4 +9,5 @@ mod Thinning
 mod Reading
 mod Gathered
 mod Rivaling
+mod Filling
 mod WorkedExamples

@@ -6,3 +6,4 @@ pub mod LegalLaws
 pub mod Examples
 pub mod Gathering
 pub mod Rivalries
+pub mod NextSet
