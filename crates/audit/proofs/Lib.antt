@@ -7,4 +7,7 @@ mod Legal
 mod Going
 mod Thinning
 mod Reading
+mod Gathered
+mod Rivaling
+mod Filling
 mod WorkedExamples

@@ -84,13 +84,15 @@ module _ (initial : List ℕ) (log : Log) (runs : List (List Step)) (told : Told
   thread_before t = AllPairs-filter Before (is_placed log runs) (map (event t) (range_with_len 1 (length (steps_of runs t))))
       (AllPairs-map (event t) (λ m n. m < n) Before (λ m n l. inr (refl, l)) (range_with_len 1 (length (steps_of runs t))) (range-rising 1 (length (steps_of runs t))))
 
+  pub list_before : AllPairs Before (placed_list log runs)
+  unfolding placed_list
+  list_before = AllPairs-flat_map (placed_of_thread log runs) Before (λ t u. t < u) thread_before
+      (λ t u x y l c d. let p = (of_thread t x c).0 in let q = (of_thread u y d).0 in inl (omega (arith, p, q, l)))
+      (thread_numbers log) (range-rising 0 (length log.threads))
+
   -- so it holds each step once
   pub list_once : IsOnce (placed_list log runs)
-  unfolding placed_list
-  list_once i j d l m = before_apart (get_or (placed_list log runs) i d) (get_or (placed_list log runs) j d)
-      (AllPairs-flat_map (placed_of_thread log runs) Before (λ t u. t < u) thread_before
-      (λ t u x y l c d. let p = (of_thread t x c).0 in let q = (of_thread u y d).0 in inl (omega (arith, p, q, l)))
-      (thread_numbers log) (range-rising 0 (length log.threads)) i j d l m)
+  list_once i j d l m = before_apart (get_or (placed_list log runs) i d) (get_or (placed_list log runs) j d) (list_before i j d l m)
 
   pub position-at : (p : ℕ) → p < length (placed_list log runs) → position_of log runs (placed_at log runs p) ≡ p
   position-at p l = place_at (placed_list log runs) list_once p no_event l

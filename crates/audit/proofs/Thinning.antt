@@ -9,7 +9,8 @@ use Rattle.replay_model.specs.Logs.{Log}
 use Rattle.constraints.specs.Constraints.{pairs_among}
 use Rattle.audit_laws.specs.IdlePairs.{idle, IsThinned}
 use Rattle.audit_laws.proofs.IdlePairs.{idle_same, thin-append}
-use Rattle.audit.specs.Constraints.{writes_to, pair_of, one_is_read, pairs_where, pairs_at, pairs_of, pair_or_idle, pairs_with_idle, placing_problem}
+use Rattle.order_solver.specs.Rivals.{pairs_where}
+use Rattle.audit.specs.Constraints.{writes_to, pair_of, one_is_read, pairs_at, pairs_of, pair_or_idle, pairs_with_idle, placing_problem}
 use Rattle.audit.specs.PlacingLaws.{IdlePairsMayStay}
 
 module _ (test : ℕ → ℕ → Bool) (pair : ℕ → ℕ → Pair) where

@@ -20,7 +20,8 @@ use Rattle.audit_laws.specs.Placings.{IsPlaced}
 use Rattle.audit_laws.specs.Pairs.{IsRead}
 use Rattle.constraints.proofs.Members.{Rising, contains_none, contains_here, contains_next, contains_cases, of_filter, in_filter, of_map, in_map, of_flat_map, in_flat_map, in_range, AllPairs-head, AllPairs-tail}
 use Rattle.audit.specs.Positions.{placed_list, placed_at, position_of, positions_where}
-use Rattle.audit.specs.Constraints.{word_at, has_written, is_write_to, writes_to, is_read, is_last_of, last_reads_of, pair_of, one_is_read, pairs_where, pairs_at, pairs_of}
+use Rattle.order_solver.specs.Rivals.{pairs_where}
+use Rattle.audit.specs.Constraints.{word_at, has_written, is_write_to, writes_to, is_read, is_last_of, last_reads_of, pair_of, one_is_read, pairs_at, pairs_of}
 use Rattle.audit.proofs.Listed.{written-at, taken, position-at, at-position, position-below, placed_there, of_positions, in_positions, positions-rising}
 
 -- a step is read exactly where some entry has it as its source

@@ -1,6 +1,6 @@
 -- The constraints of a placing: edges between positions of steps that hold in every one, and for each two writes to a word, one of
 -- which was read, two sides, lists of edges of which one has to hold whole.
-use Rattle.std.specs.Prelude.{ℕ, Bool, if◌then◌else◌, ◌&&◌, ◌||◌, ◌==◌, is_some, Some, None, List, [], ◌∷◌, ◌++◌, length, map, filter}
+use Rattle.std.specs.Prelude.{ℕ, Bool, if◌then◌else◌, ◌&&◌, ◌||◌, ◌==◌, is_some, Some, None, List, [], ◌∷◌, ◌++◌, length}
 use Rattle.std.specs.List.{flat_map, range_with_len, list_any}
 use Rattle.plain_search.specs.declared.Edge.{Edge}
 use Rattle.plain_search.specs.Chains.{arrow, chains_from}
@@ -14,6 +14,7 @@ use Rattle.replay_model.specs.Events.{names_source}
 use Rattle.replay_model.specs.Fitting.{step_at}
 use Rattle.constraints.specs.Positions.{thread_numbers}
 use Rattle.constraints.specs.Constraints.{edges_to, edges_from, pairs_among}
+use Rattle.order_solver.specs.Rivals.{pairs_where}
 use Rattle.audit_laws.specs.IdlePairs.{idle}
 use Rattle.audit.specs.Positions.{placed_list, placed_counts, placed_at, position_of, positions_where}
 
@@ -81,11 +82,6 @@ pair_of log runs s t = record { lesser = edges_to (last_reads_of log runs s) t; 
 -- whether one of the two was read. Of two writes that nobody read nothing is asked
 abbrev pub one_is_read : Log → List (List Step) → ℕ → ℕ → Bool
 one_is_read log runs s t = is_read log (placed_at log runs s) || is_read log (placed_at log runs t)
-
--- each of a list with each later one, where the two pass the test
-abbrev pub pairs_where : (ℕ → ℕ → Bool) → (ℕ → ℕ → Pair) → List ℕ → List Pair
-pairs_where test pair [] = []
-pairs_where test pair (s ∷ writes) = map (pair s) (filter (test s) writes) ++ pairs_where test pair writes
 
 -- the pairs of a word, by lesser tag and greater tag
 abbrev pub pairs_at : Log → List (List Step) → ℕ → List Pair

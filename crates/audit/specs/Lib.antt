@@ -4,3 +4,6 @@ pub mod Judging
 pub mod PlacingLaws
 pub mod LegalLaws
 pub mod Examples
+pub mod Gathering
+pub mod Rivalries
+pub mod NextSet

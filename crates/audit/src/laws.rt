@@ -1,5 +1,6 @@
 //! What tells whether a log is legal. Each function here does nothing: its contract is the law, which a caller has after the call.
 ghost use Rattle.audit.specs.PlacingLaws.{PlacesIsSolving, LinesArePlacings, IdlePairsMayStay, WritesAreRead, SidesExclude};
+ghost use Rattle.audit.specs.Rivalries.{PlacingsAreSearched, WritesAreRivals};
 ghost use Rattle.audit.specs.LegalLaws.{LegalHasOrder, LegalHasRuns, LegalHasPlacing, PlacingIsLegal};
 
 /// An order is a placing exactly where it has each step once, the base edges hold in it and one side of each pair; and positions
@@ -15,6 +16,12 @@ pub fn constraint_law()
 pub fn side_law()
     ensures read { WritesAreRead }
     ensures exclude { SidesExclude }
+{}
+
+/// The problem of a placing is one that `order_solver` searches, where runs fit the log and fewer than 2^32 steps have a place.
+pub fn rivalry_law()
+    ensures problem { PlacingsAreSearched }
+    ensures rivals { WritesAreRivals }
 {}
 
 /// A log is not legal for a program where no order respects it, where no runs fit it, or where such runs have no placing; and

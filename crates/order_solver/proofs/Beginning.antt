@@ -1,9 +1,9 @@
 -- The edges that have to hold, one after the other.
-use Rattle.std.proofs.Common.{◌≡◌, ℕ, zero, suc, ◌+◌, ◌-◌, ◌<◌, ◌≤◌, true, List, [], ◌∷◌, ◌++◌, length, get_or, take, map, sum, sym, ◌∙◌, ap, subst, arith, inl, inr, ◌⊎◌}
-use Rattle.std.specs.Prelude.{All, Contains}
-use Rattle.std.proofs.lemmas.Bool.{cases_lt}
-use Rattle.std.proofs.lemmas.List.{length-take-le, get_or-take, length-map, get_or-map, append-nil}
-use Rattle.std.proofs.lemmas.List.Elements.{All-more, All-get_or, All-from_get_or, All-contains, All-weaker, All-contains_itself, Contains-append_left, Contains-append_right}
+use Rattle.std.proofs.Common.{◌≡◌, ℕ, zero, suc, ◌+◌, ◌-◌, ◌<◌, ◌≤◌, Bool, true, false, List, [], ◌∷◌, ◌++◌, length, get_or, take, map, sum, sym, ◌∙◌, ap, subst, arith, inl, inr, ◌⊎◌}
+use Rattle.std.specs.Prelude.{All, Contains, filter}
+use Rattle.std.proofs.lemmas.Bool.{cases_lt, cases_Bool}
+use Rattle.std.proofs.lemmas.List.{length-take-le, get_or-take, append-nil}
+use Rattle.std.proofs.lemmas.List.Elements.{All-more, All-get_or, All-from_get_or, All-contains, All-weaker, All-contains_itself, Contains-get_or, Contains-append_left, Contains-append_right}
 use Rattle.plain_search.specs.declared.Edge.{Edge}
 use Rattle.plain_search.specs.Chains.{arrow, chains_from}
 use Rattle.plain_search.specs.Edges.{is_acyclic, Holds, Implies}
@@ -12,12 +12,13 @@ use Rattle.plain_search.proofs.Rankings.{Rises, acyclic-implied, Holds-split, Ho
 use Rattle.plain_search.proofs.Forcing.{forced}
 use Rattle.plain_search.proofs.Standing.{ends, force-no_worse}
 use Rattle.order_graph.specs.Graphs.{GraphState, edges_of, nodes_of}
-use Rattle.constraints.specs.Constraints.{edges_to, pairs_among}
-use Rattle.order_solver.specs.Rivals.{Rivalry, AreRivals, source_at, pair_in, pairs_from, edges_in, problem_in}
+use Rattle.constraints.specs.Constraints.{edges_to}
+use Rattle.constraints.proofs.Members.{in_map, in_filter}
+use Rattle.order_solver.specs.Rivals.{Rivalry, AreRivals, source_at, pair_in, pairs_where, pairs_from, edges_in, problem_in}
 use Rattle.order_solver.specs.Cursors.{Chained}
 use Rattle.order_solver.specs.Sides.{IsNarrower}
 use Rattle.order_solver.specs.Begun.{HoldsRuns, HoldsWords, IsBegun}
-use Rattle.order_solver.proofs.Windows.{source-before, starts-rise}
+use Rattle.order_solver.proofs.Windows.{source-in, source-before, starts-rise}
 
 abbrev pub edge_at : List Edge → ℕ → Edge
 edge_at edges k = get_or edges k (arrow 0 0)
@@ -63,35 +64,31 @@ words-more r rank word h e w l = go (cases_lt w word)
     go (inl m) = h w m
     go (inr m) = let q : word ≡ w = omega arith in subst (λ (n : ℕ). HoldsRuns r rank n (length r.counts)) q e
 
--- a pair is one of all
-pub among-in : (pair : ℕ → ℕ → Pair) (xs : List ℕ) (i j : ℕ) → i < j → j < length xs → Contains (pairs_among pair xs) (pair (get_or xs i 0) (get_or xs j 0))
-among-in pair [] i j l m = absurd (omega (arith, m))
-among-in pair (x ∷ xs) zero zero l m = absurd (omega (arith, l))
-among-in pair (x ∷ xs) zero (suc j) l m = Contains-append_left (map (pair x) xs) (pairs_among pair xs) (pair x (get_or xs j 0)) (j, n, get_or-map (pair x) xs j 0 (pair x (get_or xs j 0)) k)
-  where
-    k : j < length xs
-    k = omega arith
+-- the pair of two rivals is one of all
+pub where-in : (test : ℕ → ℕ → Bool) (pair : ℕ → ℕ → Pair) (xs : List ℕ) (i j : ℕ) → i < j → j < length xs → test (get_or xs i 0) (get_or xs j 0) ≡ true →
+    Contains (pairs_where test pair xs) (pair (get_or xs i 0) (get_or xs j 0))
+where-in test pair [] i j l m t = absurd (omega (arith, m))
+where-in test pair (x ∷ xs) zero zero l m t = absurd (omega (arith, l))
+where-in test pair (x ∷ xs) zero (suc j) l m t = Contains-append_left (map (pair x) (filter (test x) xs)) (pairs_where test pair xs) (pair x (get_or xs j 0))
+    (in_map (pair x) (filter (test x) xs) (get_or xs j 0) (in_filter (test x) xs (get_or xs j 0) (Contains-get_or xs j 0 (omega (arith, m))) t))
+where-in test pair (x ∷ xs) (suc i) zero l m t = absurd (omega (arith, l))
+where-in test pair (x ∷ xs) (suc i) (suc j) l m t = Contains-append_right (map (pair x) (filter (test x) xs)) (pairs_where test pair xs) (pair (get_or xs i 0) (get_or xs j 0))
+    (where-in test pair xs i j (omega (arith, l)) (omega (arith, m)) t)
 
-    n : j < length (map (pair x) xs)
-    n = let e = length-map xs (pair x) in omega (arith, e, k)
-among-in pair (x ∷ xs) (suc i) zero l m = absurd (omega (arith, l))
-among-in pair (x ∷ xs) (suc i) (suc j) l m = Contains-append_right (map (pair x) xs) (pairs_among pair xs) (pair (get_or xs i 0) (get_or xs j 0)) (among-in pair xs i j (omega arith) (omega arith))
-
-pub from-in : (r : Rivalry) (from n w : ℕ) (p : Pair) → from ≤ w → w < from + n → Contains (pairs_among (pair_in r w) (r.sources w)) p → Contains (pairs_from r from n) p
+pub from-in : (r : Rivalry) (from n w : ℕ) (p : Pair) → from ≤ w → w < from + n → Contains (pairs_where (r.rival w) (pair_in r w) (r.sources w)) p → Contains (pairs_from r from n) p
 from-in r from zero w p a b c = absurd (omega (arith, a, b))
 from-in r from (suc n) w p a b c = go (from-in r (from + 1) n) (cases_lt from w)
   where
-    go : ((v : ℕ) (q : Pair) → from + 1 ≤ v → v < (from + 1) + n → Contains (pairs_among (pair_in r v) (r.sources v)) q → Contains (pairs_from r (from + 1) n) q) → (from < w) ⊎ (w ≤ from) →
-        Contains (pairs_among (pair_in r from) (r.sources from) ++ pairs_from r (from + 1) n) p
-    go ih (inl l) = Contains-append_right (pairs_among (pair_in r from) (r.sources from)) (pairs_from r (from + 1) n) p (ih w p (omega arith) (omega (arith, b)) c)
+    go : ((v : ℕ) (q : Pair) → from + 1 ≤ v → v < (from + 1) + n → Contains (pairs_where (r.rival v) (pair_in r v) (r.sources v)) q → Contains (pairs_from r (from + 1) n) q) → (from < w) ⊎ (w ≤ from) →
+        Contains (pairs_where (r.rival from) (pair_in r from) (r.sources from) ++ pairs_from r (from + 1) n) p
+    go ih (inl l) = Contains-append_right (pairs_where (r.rival from) (pair_in r from) (r.sources from)) (pairs_from r (from + 1) n) p (ih w p (omega arith) (omega (arith, b)) c)
     go ih (inr l) =
         let e : w ≡ from = omega arith in
-        Contains-append_left (pairs_among (pair_in r from) (r.sources from)) (pairs_from r (from + 1) n) p (subst (λ (v : ℕ). Contains (pairs_among (pair_in r v) (r.sources v)) p) e c)
+        Contains-append_left (pairs_where (r.rival from) (pair_in r from) (r.sources from)) (pairs_from r (from + 1) n) p (subst (λ (v : ℕ). Contains (pairs_where (r.rival v) (pair_in r v) (r.sources v)) p) e c)
 
 -- each solution holds that of sources of one thread the lesser one comes first
 pub solves-runs : (r : Rivalry) (rank : ℕ → ℕ) → AreRivals r → Solves (problem_in r) rank → HoldsWords r rank r.words
-solves-runs r rank are s w lw t lt k a b = go (All-contains (HoldsOneSide rank) (pairs_from r 0 r.words) (pair_in r w (source_at r w k) (source_at r w (k + 1))) s.sides
-    (from-in r 0 r.words w (pair_in r w (source_at r w k) (source_at r w (k + 1))) (omega arith) (omega arith) (among-in (pair_in r w) (r.sources w) k (k + 1) (omega arith) within)))
+solves-runs r rank are s w lw t lt k a b = either (cases_Bool (r.rival w (source_at r w k) (source_at r w (k + 1))))
   where
     within : k + 1 < length (r.sources w)
     within =
@@ -101,12 +98,21 @@ solves-runs r rank are s w lw t lt k a b = go (All-contains (HoldsOneSide rank) 
         let e = ap (r.start w) m in
         let z = are.end w lw in omega (arith, q, e, z, b)
 
+    up : rank (source_at r w k) < rank (source_at r w (k + 1))
+    up = are.rising rank w t k (k + 1) s.base lw lt a (omega arith) b
+
     go : HoldsOneSide rank (pair_in r w (source_at r w k) (source_at r w (k + 1))) → Holds rank (edges_to (r.last_reads w (source_at r w k)) (source_at r w (k + 1)))
     go (inl h) = h
     go (inr h) =
-        let up : rank (source_at r w k) < rank (source_at r w (k + 1)) = are.rising rank w t k (k + 1) s.base lw lt a (omega arith) b in
+        let above = up in
         let down = source-before r rank w (k + 1) k are s.base lw within (let m = within in omega (arith, m)) (λ e. are.once w k (k + 1) lw (omega arith) within (sym e)) h in
-        absurd (omega (arith, up, down))
+        absurd (omega (arith, above, down))
+
+    either : (r.rival w (source_at r w k) (source_at r w (k + 1)) ≡ true) ⊎ (r.rival w (source_at r w k) (source_at r w (k + 1)) ≡ false) →
+        Holds rank (edges_to (r.last_reads w (source_at r w k)) (source_at r w (k + 1)))
+    either (inl t) = go (All-contains (HoldsOneSide rank) (pairs_from r 0 r.words) (pair_in r w (source_at r w k) (source_at r w (k + 1))) s.sides
+        (from-in r 0 r.words w (pair_in r w (source_at r w k) (source_at r w (k + 1))) (omega arith) (omega arith) (where-in (r.rival w) (pair_in r w) (r.sources w) k (k + 1) (omega arith) within t)))
+    either (inr f) = are.others rank w (source_at r w k) (source_at r w (k + 1)) s.base lw (source-in r w k (let m = within in omega (arith, m))) (source-in r w (k + 1) within) f up
 
 -- the graph of the chains alone
 pub chains-alone : (r : Rivalry) (g : GraphState) → g.counts ≡ r.counts → g.added ≡ [] → edges_of g ≡ chains_from 0 r.counts

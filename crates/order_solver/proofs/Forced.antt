@@ -1,10 +1,8 @@
 -- Sides that are forced: with them the search stands as it stood.
-use Rattle.std.proofs.Common.{◌≡◌, ℕ, zero, suc, ◌+◌, ◌<◌, Bool, true, false, List, [], ◌∷◌, ◌++◌, length, get_or, append_assoc, refl, sym, ◌∙◌, ap, subst, arith, inl, inr}
-use Rattle.std.specs.Prelude.{Contains, IsErr, Option, Some, None, Result, Ok, Err, map}
-use Rattle.std.specs.List.{range_with_len}
+use Rattle.std.proofs.Common.{◌≡◌, ℕ, ◌+◌, ◌<◌, Bool, true, false, List, [], ◌++◌, length, append_assoc, refl, sym, ◌∙◌, ap, subst, arith, inl, inr}
+use Rattle.std.specs.Prelude.{Contains, IsErr, Option, Some, None, Result, Ok, Err}
 use Rattle.std.proofs.lemmas.Bool.{both_ways}
 use Rattle.std.proofs.lemmas.List.{append-nil}
-use Rattle.std.proofs.lemmas.List.Elements.{Contains-append_left, Contains-append_right, Contains-get_or}
 use Rattle.light_base.specs.declared.memory.Memory.{Memory}
 use Rattle.plain_search.specs.declared.Edge.{Edge}
 use Rattle.plain_search.specs.Edges.{is_acyclic, Holds, Implies}
@@ -13,8 +11,6 @@ use Rattle.plain_search.specs.Standing.{Stands}
 use Rattle.plain_search.proofs.Rankings.{Holds-split, Holds-join, acyclic-ranked, cyclic-unranked}
 use Rattle.plain_search.proofs.Standing.{forces}
 use Rattle.order_graph.specs.Graphs.{GraphState, edges_of}
-use Rattle.constraints.specs.Constraints.{pairs_among}
-use Rattle.constraints.proofs.Members.{in_map, in_flat_map, in_range}
 use Rattle.order_solver.specs.declared.cursor.Cursor.{Cursor}
 use Rattle.order_solver.specs.Rivals.{Rivalry, pair_in, problem_in}
 use Rattle.order_solver.specs.Cursors.{IsAt, pairs_at, next_of}
@@ -24,6 +20,7 @@ use Rattle.order_solver.specs.Frames.{pair_at, rests_of, Stacked, StandsAt, Stan
 use Rattle.order_solver.specs.Forcing.{GoesOn, IsStuck, Forces, ForcesAll}
 use Rattle.order_solver.specs.Rooms.{IsDecided, SpendsAtMost, HasRoom, KeepsRoom, LacksRoom}
 use Rattle.order_solver.proofs.Rooms.{took-room, spent-room, fewer-fit}
+use Rattle.order_solver.proofs.Beginning.{where-in, from-in}
 use Rattle.order_solver.proofs.Going.{takes-true, takes-false, edges-are, stacked-more, rests-more, stacked-kept, took-true}
 
 -- nothing was added
@@ -49,17 +46,10 @@ on_stuck r a b c one two = record {
   room = λ memory frames h. two.room memory frames (one.room memory frames h);
 }
 
--- an earlier and a later source of a word are a pair of the problem
-in_among : (f : ℕ → ℕ → Pair) (xs : List ℕ) (i j : ℕ) → i < j → j < length xs → Contains (pairs_among f xs) (f (get_or xs i 0) (get_or xs j 0))
-in_among f [] i j l m = absurd (omega (arith, m))
-in_among f (x ∷ xs) zero zero l m = absurd (omega (arith, l))
-in_among f (x ∷ xs) (suc i) zero l m = absurd (omega (arith, l))
-in_among f (x ∷ xs) zero (suc j) l m = Contains-append_left (map (f x) xs) (pairs_among f xs) (f x (get_or xs j 0)) (in_map (f x) xs (get_or xs j 0) (Contains-get_or xs j 0 (omega (arith, m))))
-in_among f (x ∷ xs) (suc i) (suc j) l m = Contains-append_right (map (f x) xs) (pairs_among f xs) (f (get_or xs i 0) (get_or xs j 0)) (in_among f xs i j (omega (arith, l)) (omega (arith, m)))
-
+-- two rivals are a pair of the problem
 pub pair-there : (r : Rivalry) (c : Cursor) → IsAt r c → Contains (problem_in r).pairs (pair_at r c)
-pair-there r c a = in_flat_map (λ w. pairs_among (pair_in r w) (r.sources w)) (range_with_len 0 r.words) c.word (pair_at r c) (let w = a.word in in_range 0 r.words c.word (omega arith) (omega (arith, w)))
-    (in_among (pair_in r c.word) (r.sources c.word) c.lesser c.greater a.lesser a.greater)
+pair-there r c a = from-in r 0 r.words c.word (pair_at r c) (omega arith) (let w = a.word in omega (arith, w))
+    (where-in (r.rival c.word) (pair_in r c.word) (r.sources c.word) c.lesser c.greater a.lesser a.greater a.rival)
 
 -- a side that each solution holds was added, or closes a cycle
 forced-on : (r : Rivalry) (side : List Edge) (old new : GraphState) → is_acyclic (side ++ edges_of old) ≡ true → IsNarrower (λ rank. Holds rank side) old new →

@@ -14,7 +14,7 @@ use Rattle.plain_search.specs.Chains.{arrow}
 use Rattle.plain_search.specs.Edges.{Holds}
 use Rattle.plain_search.specs.Searches.{Pair, Solves, HoldsOneSide}
 use Rattle.plain_search.proofs.Choosing.{Solved, solves-lesser, solves-greater, solves-cases}
-use Rattle.constraints.specs.Constraints.{edges_to, pairs_among}
+use Rattle.constraints.specs.Constraints.{edges_to}
 use Rattle.constraints.specs.Laws.{IsLine}
 use Rattle.constraints.proofs.Members.{of_map, in_map, of_filter, of_flat_map, in_flat_map, of_range, in_range}
 use Rattle.constraints.proofs.Ranked.{All-from}
@@ -22,7 +22,7 @@ use Rattle.order_judge.specs.declared.judging.Read.{Read}
 use Rattle.order_judge.specs.Places.{place, IsOrder}
 use Rattle.order_judge.specs.Judging.{IsOver, Respects}
 use Rattle.order_judge.proofs.Filling.{place_at, same_place}
-use Rattle.order_solver.specs.Rivals.{Rivalry, AtMost, AreRivals, source_at, pair_in, pairs_from, edges_in, problem_in}
+use Rattle.order_solver.specs.Rivals.{Rivalry, AtMost, AreRivals, source_at, pair_in, pairs_where, pairs_from, edges_in, problem_in}
 use Rattle.order_solver.specs.Readings.{read, reads_of, reads_at, reads_up_to, reads_in}
 use Rattle.order_solver.specs.Findings.{IsLineOf}
 use Rattle.order_judge.proofs.Judged.{edges-fit}
@@ -47,14 +47,15 @@ in_reads r word s l w a b =
     (in_flat_map (λ s. reads_of word s (r.last_reads word s)) (r.sources word) s (read word s l) a (in_map (read word s) (r.last_reads word s) l b))
 
 -- the pairs of a list are each of an earlier and a later element
-of_pairs_among : (f : ℕ → ℕ → Pair) (xs : List ℕ) (p : Pair) → Contains (pairs_among f xs) p → (i : ℕ) × (j : ℕ) × (i < j) × (j < length xs) × (f (get_or xs i 0) (get_or xs j 0) ≡ p)
-of_pairs_among f [] p (k, l, h) = absurd (omega (arith, l))
-of_pairs_among f (x ∷ xs) p c = go (of_pairs_among f xs p) (Contains-append_cases (map (f x) xs) (pairs_among f xs) p c)
+of_pairs_where : (test : ℕ → ℕ → Bool) (f : ℕ → ℕ → Pair) (xs : List ℕ) (p : Pair) → Contains (pairs_where test f xs) p → (i : ℕ) × (j : ℕ) × (i < j) × (j < length xs) × (f (get_or xs i 0) (get_or xs j 0) ≡ p)
+of_pairs_where test f [] p (k, l, h) = absurd (omega (arith, l))
+of_pairs_where test f (x ∷ xs) p c = go (of_pairs_where test f xs p) (Contains-append_cases (map (f x) (filter (test x) xs)) (pairs_where test f xs) p c)
   where
-    go : (Contains (pairs_among f xs) p → (i : ℕ) × (j : ℕ) × (i < j) × (j < length xs) × (f (get_or xs i 0) (get_or xs j 0) ≡ p)) → Contains (map (f x) xs) p ⊎ Contains (pairs_among f xs) p →
+    go : (Contains (pairs_where test f xs) p → (i : ℕ) × (j : ℕ) × (i < j) × (j < length xs) × (f (get_or xs i 0) (get_or xs j 0) ≡ p)) → Contains (map (f x) (filter (test x) xs)) p ⊎ Contains (pairs_where test f xs) p →
         (i : ℕ) × (j : ℕ) × (i < j) × (j < length (x ∷ xs)) × (f (get_or (x ∷ xs) i 0) (get_or (x ∷ xs) j 0) ≡ p)
     go ih (inl m) =
-        let (y, (k, l, h), e) = of_map (f x) xs p m in
+        let (y, d, e) = of_map (f x) (filter (test x) xs) p m in
+        let (k, l, h) = (of_filter (test x) xs y d).0 in
         (zero, suc k, omega arith, omega (arith, l), ap (f x) (get_or_default xs k 0 y l ∙ h) ∙ e)
     go ih (inr m) = let (i, j, a, b, e) = ih m in (suc i, suc j, omega (arith, a), omega (arith, b), e)
 
@@ -96,8 +97,8 @@ one_side r order word s t rules judged w a b apart = go (none_or_some (r.last_re
 -- each pair is of two sources of a word
 of_pairs : (r : Rivalry) (p : Pair) → Contains (pairs_from r 0 r.words) p → (word : ℕ) × (i : ℕ) × (j : ℕ) × (word < r.words) × (i < j) × (j < length (r.sources word)) × (pair_in r word (source_at r word i) (source_at r word j) ≡ p)
 of_pairs r p c =
-    let (w, in_words, m) = of_flat_map (λ w. pairs_among (pair_in r w) (r.sources w)) (range_with_len 0 r.words) p c in
-    let (i, j, a, b, e) = of_pairs_among (pair_in r w) (r.sources w) p m in
+    let (w, in_words, m) = of_flat_map (λ w. pairs_where (r.rival w) (pair_in r w) (r.sources w)) (range_with_len 0 r.words) p c in
+    let (i, j, a, b, e) = of_pairs_where (r.rival w) (pair_in r w) (r.sources w) p m in
     let below = of_range 0 r.words w in_words in
     (w, i, j, omega (arith, below), a, b, e)
 

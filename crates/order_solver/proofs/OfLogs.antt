@@ -1,7 +1,8 @@
 -- What a well-formed log gives the search is what the search relies on.
-use Rattle.std.proofs.Common.{◌≡◌, ℕ, ◌+◌, ◌^◌, ◌<◌, ◌≤◌, Bool, length, get_or, sum, ◌∙◌, ap, arith, inl, inr}
+use Rattle.std.proofs.Common.{◌≡◌, ℕ, ◌+◌, ◌^◌, ◌<◌, ◌≤◌, Bool, true, length, get_or, sum, refl, ◌∙◌, ap, arith, inl, inr}
 use Rattle.std.specs.Prelude.{Contains, Some, nat_lt}
 use Rattle.std.specs.List.{range_with_len}
+use Rattle.std.proofs.lemmas.Bool.{both_ways}
 use Rattle.std.proofs.lemmas.List.{length-map}
 use Rattle.std.proofs.lemmas.List.Sums.{length-filter, count_by-le-length}
 use Rattle.std.proofs.lemmas.List.FromFn.{length-range_with_len}
@@ -75,6 +76,7 @@ are_rivals log formed few = record {
   source = λ word s w c. let l = source-below log word s c in let e = nodes in omega (arith, l, e);
   last = λ word s l w c d. let m = last-below log word s l d in let e = nodes in omega (arith, m, e);
   before = λ rank word s t h w c d n side. (sides_exclude log word s t rank formed h c d n).0 side;
+  others = λ rank word s t h w c d n up. absurd (both_ways true n refl);
   once = λ word i j w l m e. let u = sources-up log word i j l m in absurd (omega (arith, u, e));
   first = λ word w. count-none (thread_at log) 0 (sources_of log word) (λ i l. omega arith);
   end = λ word w. count-all (thread_at log) (length (counts_of log)) (sources_of log word) (λ i l. below word i l);

@@ -1,8 +1,8 @@
 -- Orders that respect a well-formed log: each event has a tag, and they are few. And what rows of positions say of them.
 use Rattle.std.proofs.Common.{◌≡◌, ℕ, ◌^◌, ◌<◌, ◌≤◌, true, false, eqb, Some, List, length, get_or, map, refl, sym, ◌∙◌, ap, subst, arith, inl, inr, ◌⊎◌}
-use Rattle.std.specs.Prelude.{Contains, All}
-use Rattle.std.specs.List.{flat_map, list_any, IsDistinct}
-use Rattle.std.proofs.lemmas.Bool.{cases_Bool, both_ways, eqb-true, false_from_ne_true}
+use Rattle.std.specs.Prelude.{Contains, All, filter, [], ◌∷◌, ◌++◌}
+use Rattle.std.specs.List.{flat_map, range_with_len, list_any, IsDistinct}
+use Rattle.std.proofs.lemmas.Bool.{cases_Bool, cases_lt, both_ways, eqb-true, false_from_ne_true}
 use Rattle.std.proofs.lemmas.Cmp.{nat_eq_equiv}
 use Rattle.std.proofs.lemmas.List.{length-map, length-append, get_or-map}
 use Rattle.std.proofs.lemmas.List.Concat.{length-flat_map}
@@ -17,14 +17,14 @@ use Rattle.light_base.specs.Tags.{HasTag, bits_of, writer_of}
 use Rattle.light_base.specs.declared.tag.Event.{Event}
 use Rattle.light_base.specs.declared.tag.Tag.{Tag}
 use Rattle.light_base.proofs.Tags.{writer_of-bits_of}
-use Rattle.plain_search.specs.Searches.{Solves, outcome}
+use Rattle.plain_search.specs.Searches.{Pair, problem_of, Solves, outcome}
 use Rattle.replay_model.specs.declared.Entry.{Entry}
 use Rattle.replay_model.specs.Logs.{Log, thread_of}
 use Rattle.replay_model.specs.Orders.{Respects}
 use Rattle.replay_model.specs.WellFormed.{IsWellFormed}
 use Rattle.constraints.specs.Positions.{thread_numbers, event_list, event_at, no_event}
 use Rattle.constraints.specs.Building.{mentioned_by, mentioned_tags}
-use Rattle.constraints.specs.Constraints.{pairs_of, problem_of_log, impossible, dead, side_edges_of}
+use Rattle.constraints.specs.Constraints.{sources_of, pairs_among, pairs_of, problem_of_log, longer_sides, impossible, dead, side_edges_of}
 use Rattle.constraints.specs.Laws.{IsLine}
 use Rattle.constraints.proofs.Members.{of_map, in_map, of_range}
 use Rattle.constraints.proofs.Ranked.{All-from}
@@ -32,9 +32,11 @@ use Rattle.constraints.proofs.Listing.{event_tagged, in_mentioned}
 use Rattle.constraints.proofs.Placing.{events_few}
 use Rattle.constraints.proofs.Shapes.{counts-sum}
 use Rattle.constraints.proofs.Sorting.{lines_are_orders, rankings_are_orders}
-use Rattle.order_solver.specs.Rivals.{AreRivals, problem_in}
+use Rattle.order_solver.specs.Rivals.{AreRivals, pair_in, pairs_where, pairs_from, edges_in, problem_in}
 use Rattle.order_solver.specs.Logs.{rivalry_of}
 use Rattle.order_solver.specs.Rooms.{side_edges_in}
+use Rattle.order_solver.specs.declared.finding.Prepared.{Prepared}
+use Rattle.order_solver.specs.Prepared.{HasMemoryFor, most_side_edges}
 use Rattle.order_solver.specs.Findings.{IsLineOf}
 use Rattle.order_solver.specs.Solving.{IsFound}
 use Rattle.order_solver.proofs.OfLogs.{are_rivals}
@@ -120,10 +122,29 @@ is_found log order formed r = record {
   few = order_few log order formed r;
 }
 
+-- where all are rivals the pairs are each of a list with each later one
+all-pass : (xs : List ℕ) → filter (λ x. true) xs ≡ xs
+all-pass [] = refl
+all-pass (x ∷ xs) = ap (λ (ys : List ℕ). x ∷ ys) (all-pass xs)
+
+all-rivals : (pair : ℕ → ℕ → Pair) (xs : List ℕ) → pairs_where (λ s t. true) pair xs ≡ pairs_among pair xs
+all-rivals pair [] = refl
+all-rivals pair (x ∷ xs) =
+    ap (λ (ys : List ℕ). map (pair x) ys ++ pairs_where (λ s t. true) pair xs) (all-pass xs) ∙ ap (λ (ps : List Pair). map (pair x) xs ++ ps) (all-rivals pair xs)
+
+same_pairs : (log : Log) → pairs_from (rivalry_of log) 0 (rivalry_of log).words ≡ pairs_of log
+unfolding pairs_of
+same_pairs log = words (range_with_len 0 (length log.last_tags))
+  where
+    words : (ws : List ℕ) → flat_map (λ w. pairs_where (λ s t. true) (pair_in (rivalry_of log) w) (sources_of log w)) ws ≡ flat_map (λ w. pairs_among (pair_in (rivalry_of log) w) (sources_of log w)) ws
+    words [] = refl
+    words (w ∷ ws) =
+        let rest : List ℕ → List Pair = flat_map (λ v. pairs_where (λ s t. true) (pair_in (rivalry_of log) v) (sources_of log v)) in
+        ap (λ (ps : List Pair). ps ++ rest ws) (all-rivals (pair_in (rivalry_of log) w) (sources_of log w)) ∙ ap (λ (ps : List Pair). pairs_among (pair_in (rivalry_of log) w) (sources_of log w) ++ ps) (words ws)
+
 -- the search works on the log's problem
 pub same_problem : (log : Log) → problem_in (rivalry_of log) ≡ problem_of_log log
-unfolding pairs_of
-same_problem log = refl
+same_problem log = ap (problem_of (edges_in (rivalry_of log))) (same_pairs log)
 
 pub rivals_of : (log : Log) → IsWellFormed log → AreRivals (rivalry_of log)
 rivals_of log formed = are_rivals log formed (events_few log formed)
@@ -161,8 +182,7 @@ spent_found log budget possible l = rw possible (subst (λ p. budget < (outcome 
 
 -- what the pairs may cost is what those of the log may
 pub same_costs : (log : Log) → side_edges_in (rivalry_of log) ≡ side_edges_of log
-unfolding pairs_of
-same_costs log = refl
+same_costs log = ap longer_sides (same_pairs log)
 
 -- such a row is no longer than the list of events
 pub line_short : (log : Log) (line : List ℕ) → IsLineOf (rivalry_of log) line → length line ≤ length (event_list log)
@@ -173,3 +193,12 @@ line_short log line h = length-le_from_distinct_below line (length (event_list l
 
     distinct : IsDistinct eqb line
     distinct = IsDistinct-from_apart eqb line (λ i j d l m. false_from_ne_true _ (λ t. h.row.once i j d l m (eqb-true (get_or line i d) (get_or line j d) t)))
+
+-- where memory is wanted that is taken for few side edges, there are many
+pub lacks_many : (log : Log) (prepared : Prepared) → (side_edges_of log ≤ most_side_edges → HasMemoryFor (side_edges_of log) prepared) → (HasMemoryFor (side_edges_in (rivalry_of log)) prepared → ⊥) →
+    most_side_edges < side_edges_of log
+lacks_many log prepared took none = go (cases_lt most_side_edges (side_edges_of log))
+  where
+    go : (most_side_edges < side_edges_of log) ⊎ (side_edges_of log ≤ most_side_edges) → most_side_edges < side_edges_of log
+    go (inl l) = l
+    go (inr m) = absurd (none (subst (λ (n : ℕ). HasMemoryFor n prepared) (sym (same_costs log)) (took m)))

@@ -1,14 +1,15 @@
 -- What is settled of one source and those of a thread: earlier ones come before it, later ones after it.
 use Rattle.std.proofs.Common.{◌≡◌, ◌≢◌, ℕ, zero, suc, ◌+◌, ◌-◌, ◌<◌, ◌≤◌, false, List, ◌++◌, length, sym, ap, subst, arith, inl, inr, ◌⊎◌}
 use Rattle.std.specs.Prelude.{Contains}
-use Rattle.std.proofs.lemmas.Bool.{cases_lt, false_from_ne_true}
+use Rattle.std.proofs.lemmas.Bool.{cases_lt, both_ways, false_from_ne_true}
 use Rattle.std.proofs.lemmas.List.Elements.{All-weaker, Contains-get_or}
 use Rattle.plain_search.specs.declared.Edge.{Edge}
 use Rattle.plain_search.specs.Edges.{is_acyclic, Holds, Implies}
 use Rattle.plain_search.proofs.Rankings.{acyclic-ranked, Holds-split}
-use Rattle.order_solver.specs.Rivals.{Rivalry, AreRivals, AtMost, edges_in, source_at, pair_in}
+use Rattle.order_solver.specs.Rivals.{Rivalry, AreRivals, IsNextRival, AtMost, edges_in, source_at, pair_in}
 use Rattle.constraints.specs.Constraints.{edges_to}
-use Rattle.order_solver.specs.Cursors.{IsRooted, IsRun, IsSettled, AreBefore, AreSettled}
+use Rattle.order_solver.specs.Cursors.{IsRooted, IsRun, IsSettled, Precedes, AreBefore, AreSettled}
+use Rattle.order_solver.specs.Rooms.{IsDecided}
 use Rattle.order_solver.proofs.Testing.{side-holds, holds-side}
 
 pub at_most-trans : (rank : ℕ → ℕ) (a b c : ℕ) → AtMost rank a b → AtMost rank b c → AtMost rank a c
@@ -85,19 +86,19 @@ before-more r edges word i from end middle are w d run l by k a b = greater-down
 -- those that come before are settled, and so are those that come after
 pub before-settled : (r : Rivalry) (edges : List Edge) (word i from end : ℕ) → AreRivals r → Implies edges (edges_in r) → word < r.words → i < from → end ≤ length (r.sources word) →
     AreBefore r edges word i from end → AreSettled r edges word i from end
-before-settled r edges word i from end are base w l m before k a b =
+before-settled r edges word i from end are base w l m before k a b q =
     inr (before k a b, settled-shut r edges word i k are base w (omega arith) (omega arith) (are.once word i k w (omega arith) (omega arith)) (before k a b))
 
 pub after-settled : (r : Rivalry) (edges : List Edge) (word i from end at : ℕ) → IsRun r edges word from end → from ≤ at →
     Implies edges (edges_to (r.last_reads word (source_at r word i)) (source_at r word at)) → AreSettled r edges word i at end
-after-settled r edges word i from end at run a by k b c = inl (lesser-up r edges word from end at k (r.last_reads word (source_at r word i)) run a b c by)
+after-settled r edges word i from end at run a by k b c q = inl (lesser-up r edges word from end at k (r.last_reads word (source_at r word i)) run a b c by)
 
 pub settled-join : (r : Rivalry) (edges : List Edge) (word i from middle end : ℕ) → AreSettled r edges word i from middle → AreSettled r edges word i middle end → AreSettled r edges word i from end
-settled-join r edges word i from middle end one two k a b = go (cases_lt k middle)
+settled-join r edges word i from middle end one two k a b q = go (cases_lt k middle)
   where
     go : (k < middle) ⊎ (middle ≤ k) → IsSettled edges (pair_in r word (source_at r word i) (source_at r word k))
-    go (inl l) = one k a l
-    go (inr m) = two k m b
+    go (inl l) = one k a l q
+    go (inr m) = two k m b q
 
 -- places at which threads' sources begin rise
 pub starts-rise : (r : Rivalry) (word t n : ℕ) → AreRivals r → word < r.words → t + n ≤ length r.counts → r.start word t ≤ r.start word (t + n)
@@ -125,12 +126,35 @@ run-of r edges word t from end are rooted w l a b e = record {
   chained = λ rank h k c d. rooted.chained rank word t h w l k (omega (arith, a, c)) (omega (arith, e, d));
 }
 
--- those that come before and those that come after are all
-pub both-settled : (r : Rivalry) (edges : List Edge) (word i from end at : ℕ) → AreRivals r → word < r.words → i < from → IsRun r edges word from end → from ≤ at → at ≤ end →
-    AreBefore r edges word i from at → Implies edges (edges_to (r.last_reads word (source_at r word i)) (source_at r word at)) → AreSettled r edges word i from end
-both-settled r edges word i from end at are w l run a b before by =
-    settled-join r edges word i from at end (before-settled r edges word i from at are run.base w l (let z = run.within in omega (arith, b, z)) before)
-    (after-settled r edges word i from end at run a by)
+-- where none of these is a rival, all is settled
+pub none-settled : (r : Rivalry) (edges : List Edge) (word i from next to : ℕ) → IsNextRival r word i from next → to ≤ next → to ≤ length (r.sources word) → AreSettled r edges word i from to
+none-settled r edges word i from next to n l m k a b q = absurd (both_ways _ (n.others k a (omega (arith, b, l)) (omega (arith, b, m))) q)
+
+-- the later ones of a run
+pub run-part : (r : Rivalry) (edges : List Edge) (word from end later : ℕ) → IsRun r edges word from end → from ≤ later → later ≤ end → IsRun r edges word later end
+run-part r edges word from end later run a b = record {
+  bounds = b;
+  within = run.within;
+  base = run.base;
+  rising = λ rank i j h c d e. run.rising rank i j h (omega (arith, a, c)) d e;
+  chained = λ rank h k c d. run.chained rank h k (omega (arith, a, c)) d;
+}
+
+-- past those that come before, and then past those that are no rivals
+pub past-settled : (r : Rivalry) (edges : List Edge) (word i from first after next to end : ℕ) → AreRivals r → word < r.words → i < from → IsRun r edges word from end → IsNextRival r word i from first → first ≤ end →
+    first ≤ after → after ≤ end → AreBefore r edges word i first after → IsNextRival r word i after next → after ≤ to → to ≤ next → to ≤ end → AreSettled r edges word i from to
+past-settled r edges word i from first after next to end are w l run one f a b before two c d e =
+    let z = run.within in
+    settled-join r edges word i from first to (none-settled r edges word i from first first one (omega arith) (omega (arith, f, z)))
+    (settled-join r edges word i first after to
+    (before-settled r edges word i first after are run.base w (let g = one.later in omega (arith, g, l)) (omega (arith, b, z)) before)
+    (none-settled r edges word i after next to two d (omega (arith, e, z))))
+
+-- where a source of a thread does not come before this one, and this one not before a later one of it, their pair is not decided
+pub next-undecided : (r : Rivalry) (edges : List Edge) (word i from end after next : ℕ) → AreRivals r → word < r.words → i < from → IsRun r edges word from end → from ≤ after → after ≤ next → next < end →
+    (Precedes r edges word after i → ⊥) → (Precedes r edges word i next → ⊥) → IsDecided edges (pair_in r word (source_at r word i) (source_at r word next)) → ⊥
+next-undecided r edges word i from end after next are w l run a b c low high (inl h) = high h
+next-undecided r edges word i from end after next are w l run a b c low high (inr h) = low (greater-down r edges word i from end after next are w l run a b c h)
 
 pub counted : (counts counts' : List ℕ) (t : ℕ) → counts ≡ counts' → t < length counts → t < length counts'
 counted counts counts' t e l = subst (λ (xs : List ℕ). t < length xs) e l

@@ -1,11 +1,11 @@
 -- A place among the pairs, and what may be passed from there on.
-use Rattle.std.specs.Prelude.{◌≡◌, ℕ, ◌+◌, ◌-◌, ◌<◌, ◌≤◌, false, nat_lt, List, [], ◌++◌, ◌⊎◌, Option, MatchOption, length, map, drop, All, if◌then◌else◌}
+use Rattle.std.specs.Prelude.{◌≡◌, ℕ, ◌+◌, ◌-◌, ◌<◌, ◌≤◌, true, false, nat_lt, List, [], ◌++◌, ◌⊎◌, Option, MatchOption, length, map, filter, drop, All, if◌then◌else◌}
 use Rattle.plain_search.specs.declared.Edge.{Edge}
 use Rattle.plain_search.specs.Edges.{is_acyclic, Holds, Implies}
 use Rattle.plain_search.specs.Searches.{Pair}
 use Rattle.order_solver.specs.declared.cursor.Cursor.{Cursor}
-use Rattle.order_solver.specs.Rivals.{Rivalry, source_at, pair_in, pairs_from, edges_in}
-use Rattle.constraints.specs.Constraints.{pairs_among, edges_to}
+use Rattle.order_solver.specs.Rivals.{Rivalry, source_at, pair_in, pairs_where, pairs_from, edges_in}
+use Rattle.constraints.specs.Constraints.{edges_to}
 
 abbrev pub cursor : ℕ → ℕ → ℕ → Cursor
 cursor word lesser greater = record { word = word; lesser = lesser; greater = greater }
@@ -14,8 +14,8 @@ cursor word lesser greater = record { word = word; lesser = lesser; greater = gr
 abbrev pub pairs_at : Rivalry → Cursor → List Pair
 pairs_at r c =
     if nat_lt c.word r.words then
-    map (pair_in r c.word (source_at r c.word c.lesser)) (drop c.greater (r.sources c.word)) ++
-    (pairs_among (pair_in r c.word) (drop (c.lesser + 1) (r.sources c.word)) ++ pairs_from r (c.word + 1) (r.words - (c.word + 1)))
+    map (pair_in r c.word (source_at r c.word c.lesser)) (filter (r.rival c.word (source_at r c.word c.lesser)) (drop c.greater (r.sources c.word))) ++
+    (pairs_where (r.rival c.word) (pair_in r c.word) (drop (c.lesser + 1) (r.sources c.word)) ++ pairs_from r (c.word + 1) (r.words - (c.word + 1)))
     else []
 
 -- the next one of its source, and the first one of the next source of the word, or of the next word
@@ -36,6 +36,7 @@ pub record IsAt (r : Rivalry) (c : Cursor) : Type 0 where
   pub word : c.word < r.words
   pub lesser : c.lesser < c.greater
   pub greater : c.greater < length (r.sources c.word)
+  pub rival : r.rival c.word (source_at r c.word c.lesser) (source_at r c.word c.greater) ≡ true
 
 -- the edges imply the lesser side, or they imply the greater one and shut the lesser one
 abbrev pub IsSettled : List Edge → Pair → Type 0
@@ -68,14 +69,15 @@ Precedes r edges word i j = Implies edges (edges_to (r.last_reads word (source_a
 abbrev pub AreBefore : Rivalry → List Edge → ℕ → ℕ → ℕ → ℕ → Type 0
 AreBefore r edges word i from end = (k : ℕ) → from ≤ k → k < end → Precedes r edges word k i
 
--- the pairs of a source with each of these are settled
+-- the pairs of a source with each of these that is its rival are settled
 abbrev pub AreSettled : Rivalry → List Edge → ℕ → ℕ → ℕ → ℕ → Type 0
-AreSettled r edges word i from end = (k : ℕ) → from ≤ k → k < end → IsSettled edges (pair_in r word (source_at r word i) (source_at r word k))
+AreSettled r edges word i from end = (k : ℕ) → from ≤ k → k < end → r.rival word (source_at r word i) (source_at r word k) ≡ true →
+    IsSettled edges (pair_in r word (source_at r word i) (source_at r word k))
 
--- those before the one that was found are, or all of them where none was
+-- those before the rival that was found are, or all of them where none was
 abbrev pub AreSettledBefore : Rivalry → List Edge → ℕ → ℕ → ℕ → ℕ → Option ℕ → Type 0
 AreSettledBefore r edges word i from end found = MatchOption found (AreSettled r edges word i from end)
-    (λ k. (from ≤ k) × (k < end) × AreSettled r edges word i from k)
+    (λ k. (from ≤ k) × (k < end) × AreSettled r edges word i from k × (r.rival word (source_at r word i) (source_at r word k) ≡ true))
 
 -- some pairs were passed, all of them settled
 pub record Passes (edges : List Edge) (pairs rest : List Pair) : Type 0 where

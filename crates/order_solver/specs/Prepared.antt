@@ -3,7 +3,6 @@ use Rattle.std.specs.Prelude.{◌≡◌, ℕ, ◌≤◌, Ok, [], IfSome, sum, ve
 use Rattle.order_graph.specs.Graphs.{GraphState}
 use Rattle.order_solver.specs.declared.finding.Prepared.{Prepared}
 use Rattle.order_solver.specs.Rivals.{Rivalry}
-use Rattle.order_solver.specs.Rooms.{side_edges_in}
 use Rattle.order_solver.specs.Begun.{Begins}
 
 -- the most edges of pairs' longer sides for which the memory is taken first
@@ -17,11 +16,14 @@ pub record HasSpare (adds : ℕ) (old new : GraphState) : Type 0 where
   pub spare : adds ≤ new.spare
 
 -- a graph with which the search may begin, or none where no ranking solves the problem; no frames yet, and an empty row with room for all
--- nodes; where all sides may be taken, there is memory for them, and for a frame at each
+-- nodes
 pub record IsPrepared (r : Rivalry) (s : Prepared) : Type 0 where
   pub begins : Begins r (Ok s.graph)
   pub frames : s.frames.items ≡ []
   pub line : s.line.items ≡ []
   pub room : sum r.counts ≤ vec_capacity s.line
-  pub spare : side_edges_in r ≤ most_side_edges → IfSome s.graph (λ g. side_edges_in r ≤ g.spare)
-  pub capacity : side_edges_in r ≤ most_side_edges → side_edges_in r ≤ vec_capacity s.frames
+
+-- there is memory for so many edges, and for a frame at each
+pub record HasMemoryFor (adds : ℕ) (s : Prepared) : Type 0 where
+  pub spare : IfSome s.graph (λ g. adds ≤ g.spare)
+  pub capacity : adds ≤ vec_capacity s.frames

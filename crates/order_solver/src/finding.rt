@@ -3,7 +3,7 @@ ghost use Rattle.std.specs.Prelude.{◌≡◌, ◌+◌, ◌^◌, ◌<◌, ◌≤
 ghost use Rattle.order_solver.specs.Rivals.{AreRivals};
 ghost use Rattle.order_solver.specs.Rooms.{side_edges_in};
 ghost use Rattle.order_solver.specs.Findings.{Finds};
-ghost use Rattle.order_solver.specs.Prepared.{IsPrepared, most_side_edges, HasSpare};
+ghost use Rattle.order_solver.specs.Prepared.{IsPrepared, HasMemoryFor, HasSpare};
 
 use crate::begin::begin;
 use crate::rivals::Rivals;
@@ -22,9 +22,6 @@ pub enum Finding {
     /// The search met more dead ends than it may.
     Spent,
 }
-
-/// The most edges of pairs' longer sides for which a search takes its memory before it begins.
-pub const MOST_SIDE_EDGES: u64 = 4_194_304;
 
 /// What a search works with: the graph with which it begins, where the edges that have to hold have no cycle, and memory for
 /// its frames and for a row of all nodes.
@@ -55,31 +52,26 @@ fn with_spare(mut graph: Graph, adds: u32) -> Result<Graph, Memory>
     Ok(graph)
 }
 
-/// Takes the memory of a whole search: where the pairs' longer sides have no more than `MOST_SIDE_EDGES` edges in all, none is
-/// wanted afterwards.
-pub fn prepare<R: Rivals>(alloc: Global, rivals: &R) -> Result<Prepared, Memory>
+/// Takes memory for a search: for the graph and this many edges of sides that it may take, for a frame at each of them, and for
+/// a row of all nodes.
+pub fn prepare<R: Rivals>(alloc: Global, rivals: &R, side_edges: u32) -> Result<Prepared, Memory>
     requires { AreRivals (R.rivalry rivals.now) }
-    ensures { IfOk result (λ prepared. IsPrepared (R.rivalry rivals.now) prepared) }
+    ensures prepared { IfOk result (λ prepared. IsPrepared (R.rivalry rivals.now) prepared) }
+    ensures memory { IfOk result (λ prepared. HasMemoryFor side_edges prepared) }
 {
-    let side_edges = rivals.side_edges();
-    let adds = if side_edges <= MOST_SIDE_EDGES {
-        side_edges as u32
-    } else {
-        0
-    };
     let graph = match begin(alloc, rivals)? {
-        Some(graph) => Some(with_spare(graph, adds)?),
+        Some(graph) => Some(with_spare(graph, side_edges)?),
         None => None,
     };
     Ok(Prepared {
         graph,
-        frames: Vec::with_capacity(alloc, adds as usize)?,
+        frames: Vec::with_capacity(alloc, side_edges as usize)?,
         line: Vec::with_capacity(alloc, nodes_of(rivals.counts()))?,
     })
 }
 
-/// The exact search, with at most so many dead ends. It wants memory only where the pairs' longer sides have more than
-/// `MOST_SIDE_EDGES` edges in all.
+/// The exact search, with at most so many dead ends. It wants no memory where it was taken for the edges of the longer side of
+/// each pair.
 pub fn search_line<R: Rivals>(
     rivals: &R,
     prepared: Prepared,
@@ -88,7 +80,7 @@ pub fn search_line<R: Rivals>(
     requires rivals { AreRivals (R.rivalry rivals.now) }
     requires prepared { IsPrepared (R.rivalry rivals.now) prepared }
     ensures finds { Finds (R.rivalry rivals.now) budget result }
-    ensures memory { OnErr result (most_side_edges < side_edges_in (R.rivalry rivals.now)) }
+    ensures memory { OnErr result (HasMemoryFor (side_edges_in (R.rivalry rivals.now)) prepared → ⊥) }
 {
     let Prepared {
         graph,

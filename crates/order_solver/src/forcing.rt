@@ -1,6 +1,6 @@
 // Sides that the graph forces: those whose other side closes a cycle.
 ghost use Rattle.std.specs.Prelude.{◌≡◌, ℕ, ◌+◌, ◌<◌, ◌≤◌, length};
-ghost use Rattle.order_solver.specs.Rivals.{AreRivals};
+ghost use Rattle.order_solver.specs.Rivals.{AreRivals, source_at};
 ghost use Rattle.order_solver.specs.Cursors.{IsAt};
 ghost use Rattle.order_solver.specs.Forcing.{Forces, ForcesAll};
 
@@ -24,6 +24,17 @@ pub fn rounds_after<R: Rivals>(rivals: &R) -> u64 {
         sources = sources.saturating_add(rivals.sources(word).len());
     }
     if sources <= MANY { ALL_ROUNDS } else { 0 }
+}
+
+// Whether two sources of a word are rivals.
+fn are_rivals<R: Rivals>(rivals: &R, at: Cursor) -> bool
+    requires word { at.word < (R.rivalry rivals.now).words }
+    requires lesser { at.lesser < at.greater }
+    requires greater { at.greater < length ((R.rivalry rivals.now).sources at.word) }
+    ensures { result ≡ (R.rivalry rivals.now).rival at.word (source_at (R.rivalry rivals.now) at.word at.lesser)
+        (source_at (R.rivalry rivals.now) at.word at.greater) }
+{
+    rivals.next_rival(at.word, at.lesser, at.greater) == at.greater
 }
 
 // Takes the lesser side of a pair whose greater one is shut, where the graph does not imply it. Whether it was taken; none
@@ -142,8 +153,12 @@ fn force_first<R: Rivals>(
     ensures { Forces (R.rivalry rivals.now) graph.old result graph.new }
 {
     let first = first_shut(rivals, graph, at, end);
-    if first < end {
-        force_lesser(rivals, graph, with_greater(at, first))
+    if first >= end {
+        return Ok(Some(false));
+    }
+    let pair = with_greater(at, first);
+    if are_rivals(rivals, pair) {
+        force_lesser(rivals, graph, pair)
     } else {
         Ok(Some(false))
     }
@@ -165,8 +180,12 @@ fn force_last<R: Rivals>(
     ensures { Forces (R.rivalry rivals.now) graph.old result graph.new }
 {
     let last = end_shut(rivals, graph, at, end);
-    if at.greater < last {
-        force_greater(rivals, graph, with_greater(at, last - 1))
+    if last <= at.greater {
+        return Ok(Some(false));
+    }
+    let pair = with_greater(at, last - 1);
+    if are_rivals(rivals, pair) {
+        force_greater(rivals, graph, pair)
     } else {
         Ok(Some(false))
     }
@@ -195,7 +214,7 @@ fn force_run<R: Rivals>(
     Ok(Some(first | last))
 }
 
-// The same with the later sources of all threads.
+// The same with the later sources of all threads, where one of them is a rival.
 fn force_row<R: Rivals>(
     rivals: &R,
     graph: &mut Graph,
@@ -208,6 +227,9 @@ fn force_row<R: Rivals>(
     requires source { source < length ((R.rivalry rivals.now).sources word) }
     ensures { Forces (R.rivalry rivals.now) graph.old result graph.new }
 {
+    if rivals.next_rival(word, source, source + 1) as usize >= rivals.sources(word).len() {
+        return Ok(Some(false));
+    }
     let mut some = false;
     let mut from = source + 1;
     for thread in 0..rivals.counts().len() {

@@ -1,5 +1,5 @@
-//! A search for an order of nodes in which for each two sources of a word one comes first with all its last reads, and the solver
-//! of a log that stands on it.
+//! A search for an order of nodes in which of each two rival sources of a word one comes first with all its last reads, and the
+//! solver of a log that stands on it.
 #![tactic(auto)]
 
 mod begin;
@@ -17,4 +17,7 @@ mod sides;
 mod solving;
 mod taking;
 
+pub use finding::{Finding, Prepared, prepare, search_line};
+pub use guessing::guess_line;
+pub use rivals::Rivals;
 pub use solving::{Answer, Search, solve};

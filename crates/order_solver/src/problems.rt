@@ -30,11 +30,11 @@ impl Rivals for Problem {
         Problem::lasts(self, word, source)
     }
 
-    fn group(&self, word: u16, thread: u8) -> (u32, u32) {
-        Problem::group(self, word, thread)
+    fn next_rival(&self, _word: u16, _source: u32, from: u32) -> u32 {
+        from
     }
 
-    fn side_edges(&self) -> u64 {
-        Problem::side_edges(self)
+    fn group(&self, word: u16, thread: u8) -> (u32, u32) {
+        Problem::group(self, word, thread)
     }
 }

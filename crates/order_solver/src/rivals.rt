@@ -1,12 +1,11 @@
 // What the search works on.
 ghost use Rattle.std.specs.Prelude.{◌≡◌, ℕ, ◌+◌, ◌<◌, length, slice_index};
-ghost use Rattle.order_solver.specs.Rivals.{Rivalry, source_at};
-ghost use Rattle.order_solver.specs.Rooms.{side_edges_in};
+ghost use Rattle.order_solver.specs.Rivals.{Rivalry, source_at, IsNextRival};
 
 use plain_search::Edge;
 
-/// Nodes of threads with edges that have to hold, and for each word its sources, of which each two are rivals: one of the
-/// two comes first, and its last reads do too.
+/// Nodes of threads with edges that have to hold, and for each word its sources. Some of these are rivals: one of the two comes
+/// first, and its last reads do too. Of two that are none nothing is asked.
 pub trait Rivals {
     ghost rivalry: { Self → Rivalry };
 
@@ -40,7 +39,11 @@ pub trait Rivals {
         ensures start { result.0 ≡ (rivalry self.now).start word thread }
         ensures end { result.1 ≡ (rivalry self.now).start word (thread + 1) };
 
-    /// The number of edges of the longer side of each pair, summed over all pairs.
-    fn side_edges(&self) -> u64
-        ensures { result ≡ side_edges_in (rivalry self.now) };
+    /// The place of the word's first source from this place on that is a rival of the one at the other place; past all sources
+    /// where none is left.
+    fn next_rival(&self, word: u16, source: u32, from: u32) -> u32
+        requires word { word < (rivalry self.now).words }
+        requires source { source < length ((rivalry self.now).sources word) }
+        requires later { source < from }
+        ensures { IsNextRival (rivalry self.now) word source from result };
 }

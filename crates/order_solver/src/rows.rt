@@ -59,7 +59,7 @@ fn first_after<R: Rivals>(
     low
 }
 
-// The first of the pairs of a source with those of one thread, from one place to another, that the graph does not settle.
+// The first of the pairs of a source with its rivals of one thread, from one place to another, that the graph does not settle.
 fn next_in_run<R: Rivals>(
     rivals: &R,
     graph: &Graph,
@@ -76,11 +76,13 @@ fn next_in_run<R: Rivals>(
     ensures settled { AreSettledBefore (R.rivalry rivals.now) (edges_of graph.now) word source from end result }
     ensures undecided { IfSome result (AreUndecided (R.rivalry rivals.now) (edges_of graph.now) word source) }
 {
-    if from >= end {
+    let first = rivals.next_rival(word, source, from);
+    if first >= end {
         return None;
     }
-    let next = first_after(rivals, graph, word, source, from, end);
-    if next == end {
+    let after = first_after(rivals, graph, word, source, first, end);
+    let next = rivals.next_rival(word, source, after);
+    if next >= end {
         return None;
     }
     if precedes(rivals, graph, word, source, next) {

@@ -45,6 +45,21 @@ fn events_at(alloc: Global, events: &[Event], positions: &[u32]) -> Result<Vec<E
     Ok(order)
 }
 
+// The most edges of pairs' longer sides for which a search takes its memory before it begins.
+const MOST_SIDE_EDGES: u64 = 4_194_304;
+
+// For how many of them the memory is taken before the search begins: for all, or else for none.
+fn side_edges_first(problem: &Problem) -> u32
+    ensures { side_edges_of problem.now ≤ most_side_edges → result ≡ side_edges_of problem.now }
+{
+    let side_edges = problem.side_edges();
+    if side_edges <= MOST_SIDE_EDGES {
+        side_edges as u32
+    } else {
+        0
+    }
+}
+
 /// A search for an order of a log's events, with its memory.
 ///
 /// It is seen as the log.
@@ -60,13 +75,15 @@ impl<'p> Model for Search<'p> {
     ghost use Rattle.replay_model.specs.Logs.{Log};
     ghost use Rattle.constraints.specs.Positions.{event_list};
     ghost use Rattle.order_solver.specs.Logs.{rivalry_of};
-    ghost use Rattle.order_solver.specs.Prepared.{IsPrepared};
+    ghost use Rattle.constraints.specs.Constraints.{side_edges_of};
+    ghost use Rattle.order_solver.specs.Prepared.{IsPrepared, HasMemoryFor, most_side_edges};
 
     ghost Value = { Log };
 
     ghost view = { λ s. s.problem.now };
 
-    ghost invariant = { λ s. IsPrepared (rivalry_of s.problem.now) s.prepared × (s.order.items ≡ []) ×
+    ghost invariant = { λ s. IsPrepared (rivalry_of s.problem.now) s.prepared ×
+        (side_edges_of s.problem.now ≤ most_side_edges → HasMemoryFor (side_edges_of s.problem.now) s.prepared) × (s.order.items ≡ []) ×
         (length (event_list s.problem.now) ≤ vec_capacity s.order) };
 }
 
@@ -79,7 +96,7 @@ impl<'p> Search<'p> {
         let events = problem.events();
         Ok(Search {
             problem,
-            prepared: prepare(alloc, problem)?,
+            prepared: prepare(alloc, problem, side_edges_first(problem))?,
             order: Vec::with_capacity(alloc, events.len())?,
         })
     }

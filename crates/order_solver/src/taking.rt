@@ -18,7 +18,9 @@ use order_graph::Graph;
 pub fn is_lesser_open<R: Rivals>(rivals: &R, graph: &Graph, at: Cursor) -> bool
     requires rivals { AreRivals (R.rivalry rivals.now) }
     requires counts { graph.now.counts ≡ (R.rivalry rivals.now).counts }
-    requires at { IsAt (R.rivalry rivals.now) at }
+    requires word { at.word < (R.rivalry rivals.now).words }
+    requires lesser { at.lesser < at.greater }
+    requires greater { at.greater < length ((R.rivalry rivals.now).sources at.word) }
     ensures { result ≡ is_acyclic ((pair_at (R.rivalry rivals.now) at).lesser ++ edges_of graph.now) }
 {
     let source = rivals.sources(at.word)[at.greater as usize];
@@ -29,7 +31,9 @@ pub fn is_lesser_open<R: Rivals>(rivals: &R, graph: &Graph, at: Cursor) -> bool
 pub fn is_greater_open<R: Rivals>(rivals: &R, graph: &Graph, at: Cursor) -> bool
     requires rivals { AreRivals (R.rivalry rivals.now) }
     requires counts { graph.now.counts ≡ (R.rivalry rivals.now).counts }
-    requires at { IsAt (R.rivalry rivals.now) at }
+    requires word { at.word < (R.rivalry rivals.now).words }
+    requires lesser { at.lesser < at.greater }
+    requires greater { at.greater < length ((R.rivalry rivals.now).sources at.word) }
     ensures { result ≡ is_acyclic ((pair_at (R.rivalry rivals.now) at).greater ++ edges_of graph.now) }
 {
     let source = rivals.sources(at.word)[at.lesser as usize];

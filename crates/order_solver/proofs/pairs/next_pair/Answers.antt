@@ -16,7 +16,7 @@ returns-in-Some-clause-passes g c =
     let s = c.in-Some.ensures.settled in
     let t = c.loop-at-test.true in
     let e = c.words.ensures in
-    found-at (g.R.Rivals.rivalry c.args.rivals.now) (edges_of c.args.graph.now) c.args.from c.loop-at.at c.in-Some.greater (omega (arith, t, e)) c.loop-at.invariant.place c.loop-at.invariant.passes s.0 s.1 s.2
+    found-at (g.R.Rivals.rivalry c.args.rivals.now) (edges_of c.args.graph.now) c.args.from c.loop-at.at c.in-Some.greater (omega (arith, t, e)) c.loop-at.invariant.place c.loop-at.invariant.passes s.0 s.1 s.2 s.3
 
 pub loop-at-smaller : goal.loop-at-smaller
 loop-at-smaller g c =

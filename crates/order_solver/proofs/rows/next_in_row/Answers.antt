@@ -27,4 +27,5 @@ returns-in-Some-clause-settled g c =
       omega (arith, i, a),
       omega (arith, b, z),
       settled-join (g.R.Rivals.rivalry c.args.rivals.now) (edges_of c.args.graph.now) c.args.at.word c.args.at.lesser c.args.at.greater c.loop-thread.from c.in-Some.next c.loop-thread.invariant.settled s.2,
+      s.3,
     )

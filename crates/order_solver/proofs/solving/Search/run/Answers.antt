@@ -10,7 +10,7 @@ use Rattle.order_solver.specs.Findings.{Finds}
 use Rattle.order_solver.specs.Prepared.{most_side_edges}
 use Rattle.order_solver.specs.Solving.{IsFound}
 use Rattle.order_solver.proofs.Spending.{on_err}
-use Rattle.order_solver.proofs.OfOrders.{rivals_of, same_costs, line_within, line_short, line_found, none_found, never_found, spent_found}
+use Rattle.order_solver.proofs.OfOrders.{rivals_of, lacks_many, line_within, line_short, line_found, none_found, never_found, spent_found}
 use Rattle.order_solver.proofs.solving.Search.run.Goals as goal
 
 pub returns-then-impossible-clause-solved : goal.returns-then-impossible-clause-solved
@@ -22,7 +22,7 @@ search_line-requires-clause-rivals c = rivals_of c.self.inside.problem.now c.eve
 
 pub returns-in_err-line-clause-memory : goal.returns-in_err-line-clause-memory
 returns-in_err-line-clause-memory c = on_err _ _ c.from_residual.ensures.0
-    (subst (λ (l : Log). most_side_edges < side_edges_of l) c.self.view_is (let m = c.in_err-line.ensures.memory in let e = same_costs c.self.inside.problem.now in omega (arith, m, e)))
+    (subst (λ (l : Log). most_side_edges < side_edges_of l) c.self.view_is (lacks_many c.self.inside.problem.now c.self.inside.prepared c.self.invariant.1 c.in_err-line.ensures.memory))
 
 pub put_events-requires-clause-within : goal.put_events-requires-clause-within
 put_events-requires-clause-within c = line_within c.self.inside.problem.now c.in-Line.line.items c.deref.result.now c.events-events.result.now
@@ -32,7 +32,7 @@ pub put_events-requires-clause-room : goal.put_events-requires-clause-room
 put_events-requires-clause-room c =
     let a = line_short c.self.inside.problem.now c.in-Line.line.items (subst (λ (f : Finding). Finds (rivalry_of c.self.inside.problem.now) c.args.budget (Ok f)) c.in-Line.is c.in_ok-line.ensures.finds) in
     let b = ap length c.deref.ensures.value in
-    let r = c.self.invariant.2 in omega (arith, a, b, r)
+    let r = c.self.invariant.3 in omega (arith, a, b, r)
 
 pub returns-in-Line-clause-solved : goal.returns-in-Line-clause-solved
 returns-in-Line-clause-solved c =
