@@ -1,15 +1,14 @@
 -- Adding edges that have to hold.
-use Rattle.std.proofs.Common.{◌≡◌, ℕ, ◌+◌, ◌<◌, false, List, [], ◌∷◌, ◌++◌, length, get_or, take, append_assoc, refl, sym, ◌∙◌, ap, subst, arith, inl, inr}
-use Rattle.std.specs.Prelude.{All, Result, Ok, Err, sum}
-use Rattle.std.proofs.lemmas.Bool.{false_from_ne_true}
-use Rattle.std.proofs.lemmas.List.{append-nil, length-take-le, get_or-take}
+use Rattle.std.proofs.Common.{◌≡◌, ℕ, ◌+◌, ◌<◌, List, [], ◌∷◌, ◌++◌, length, get_or, take, append_assoc, refl, sym, ◌∙◌, ap, subst, arith, inl, inr}
+use Rattle.std.specs.Prelude.{Result, Ok, Err}
+use Rattle.std.proofs.lemmas.List.{length-take-le, get_or-take}
 use Rattle.std.proofs.lemmas.List.Elements.{All-nil, All-cons, All-head, All-get_or, All-more, All-from_get_or}
 use Rattle.light_base.specs.declared.memory.Memory.{Memory}
 use Rattle.plain_search.specs.declared.Edge.{Edge}
-use Rattle.plain_search.specs.Edges.{LeadsTo, IsOrLeadsTo, is_acyclic, Holds}
+use Rattle.plain_search.specs.Edges.{LeadsTo, IsOrLeadsTo, Holds}
 use Rattle.plain_search.specs.Chains.{arrow, chains_from}
 use Rattle.plain_search.proofs.Walks.{walk-reaches}
-use Rattle.plain_search.proofs.Rankings.{Rises, reaches-rises, acyclic-ranked, Holds-split, Holds-join}
+use Rattle.plain_search.proofs.Rankings.{Rises, reaches-rises, Holds-split, Holds-join}
 use Rattle.order_graph.specs.declared.thread_graph.Added.{Added}
 use Rattle.order_graph.specs.declared.thread_graph.Added.TheVariants.{In, Cycle}
 use Rattle.order_graph.specs.Graphs.{GraphState, edges_of, Adds}

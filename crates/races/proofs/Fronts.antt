@@ -1,6 +1,6 @@
 -- What the fronts of a table say of the pairs of one source.
 use Rattle.std.proofs.Common.{◌≡◌, ℕ, ◌+◌, ◌-◌, ◌*◌, ◌<◌, ◌≤◌, Bool, true, false, length, get_or, refl, sym, ◌∙◌, ap, subst, arith, inl, inr, ◌⊎◌}
-use Rattle.std.specs.Prelude.{◌&&◌, not, max}
+use Rattle.std.specs.Prelude.{not, max}
 use Rattle.std.proofs.lemmas.Bool.{cases_lt, cases_Bool}
 use Rattle.std.proofs.lemmas.List.{get_or_default}
 use Rattle.std.proofs.Math.Nat.{max-eq_left, max-eq_right}
@@ -9,7 +9,8 @@ use Rattle.constraints.specs.Constraints.{sources_of, group_of}
 use Rattle.races.specs.declared.table.Table.{Table}
 use Rattle.races.specs.declared.table.Row.{Row}
 use Rattle.races.specs.Shut.{IsFront, shuts}
-use Rattle.races.specs.Tables.{IsTable, IsRow, IsNext, opens, sticks}
+use Rattle.races.specs.Tables.{IsTable, IsRow, IsStretch, IsNext, opens, sticks}
+use Rattle.races.specs.Bounds.{IsOrdered}
 use Rattle.races.proofs.Ranges.{counted, counted-join, counted-none, counted-same}
 use Rattle.races.proofs.Shuts.{group-within}
 use Rattle.races.proofs.Tabled.{row-below}
@@ -40,6 +41,15 @@ pub back-no : (log : Log) (row : Row) (table : Table) (j end : ℕ) → IsTable 
     end ≡ get_or table.ends.items (j * table.threads + row.thread) end → end ≤ row.place → shuts log row.word j row.place ≡ false
 back-no log row table j end tab r l e m =
     (end-at log row.word j row.thread table end tab l (let a = tab.threads in let b = r.thread in omega (arith, a, b)) e).after row.place m r.end
+
+-- two places of a stretch are rows of one block
+ordered : (log : Log) (word : ℕ) (table : Table) (from to i j : ℕ) → IsTable log word table → (s : IsStretch log word from to) → from ≤ i → i ≤ j → j < to → IsOrdered table.threads table.starts.items s.0 i j
+ordered log word table from to i j tab s l m n = record {
+  block = (let k = tab.threads in let b = s.1 in omega (arith, k, b));
+  begin = (let x = tab.starts.begin s.0 s.1 in let y = s.2 in omega (arith, x, y, l));
+  order = m;
+  end = (let x = tab.starts.end s.0 s.1 in let y = s.3 in omega (arith, x, y, n));
+}
 
 -- a start that was read
 pub start-at : (log : Log) (word t : ℕ) (table : Table) (start : ℕ) → IsTable log word table → t < table.threads → start ≡ get_or table.starts.items t start → start ≡ (group_of log word t).0
@@ -152,3 +162,39 @@ opens-next log word i from at next begin end found start f b a e l h n none k = 
 pub opens-past : (log : Log) (word i from at next begin end found start : ℕ) → IsFront (shuts log word i) begin next end → begin ≤ at → start ≡ max at end →
     IsNext (λ j. not (shuts log word j i)) start next found → ((j : ℕ) → from ≤ j → j < at → opens log word i j ≡ false) → (j : ℕ) → from ≤ j → j < found → opens log word i j ≡ false
 opens-past log word i from at next begin end found start f b e n none = none-join (opens log word i) from at found none (opens-none log word i at next begin end found start f b e n)
+
+-- the ends of a stretch against the row's thread, bounded by the last one's top
+pub stretch-none : (log : Log) (row : Row) (table : Table) (from to top : ℕ) → IsTable log row.word table → IsRow log row → IsStretch log row.word from to → from < to →
+    top ≡ get_or table.tops.items ((to - 1) * table.threads + row.thread) top → top ≤ row.place → (j : ℕ) → from ≤ j → j < to → shuts log row.word j row.place ≡ false
+stretch-none log row table from to top tab r s some e le j l m =
+    let k = tab.threads in
+    let a = r.thread in
+    let n = tab.sources in
+    let g = group-within log row.word s.0 in
+    let q = s.3 in
+    let i : j < length (sources_of log row.word) = omega (arith, m, q, g) in
+    let c : row.thread < table.threads = omega (arith, k, a) in
+    let b = tab.tops.bound s.0 j (to - 1) row.thread c (ordered log row.word table from to j (to - 1) tab s (omega (arith, l)) (omega (arith, m)) (omega (arith, some))) in
+    let d = row-below (to - 1) table.sources table.threads row.thread (omega (arith, some, q, g, n)) c in
+    let z = tab.tops.size in
+    let y = tab.ends.size in
+    let v = e ∙ get_or_default table.tops.items ((to - 1) * table.threads + row.thread) top 0 (omega (arith, d, z, y)) in
+    (front-at log row.word j row.thread table tab i c).after row.place (omega (arith, b, v, le)) r.end
+
+-- and by the first one's floor
+pub stretch-all : (log : Log) (row : Row) (table : Table) (from to floor : ℕ) → IsTable log row.word table → IsRow log row → IsStretch log row.word from to → from < to →
+    floor ≡ get_or table.floors.items (from * table.threads + row.thread) floor → row.place < floor → (j : ℕ) → from ≤ j → j < to → shuts log row.word j row.place ≡ true
+stretch-all log row table from to floor tab r s some e lt j l m =
+    let k = tab.threads in
+    let a = r.thread in
+    let n = tab.sources in
+    let g = group-within log row.word s.0 in
+    let q = s.3 in
+    let i : j < length (sources_of log row.word) = omega (arith, m, q, g) in
+    let c : row.thread < table.threads = omega (arith, k, a) in
+    let b = tab.floors.bound s.0 from j row.thread c (ordered log row.word table from to from j tab s (omega arith) l m) in
+    let d = row-below from table.sources table.threads row.thread (omega (arith, some, q, g, n)) c in
+    let z = tab.floors.size in
+    let y = tab.ends.size in
+    let v = e ∙ get_or_default table.floors.items (from * table.threads + row.thread) floor 0 (omega (arith, d, z, y)) in
+    (front-at log row.word j row.thread table tab i c).before row.place r.begin (omega (arith, b, v, lt))

@@ -5,6 +5,7 @@ mod Based
 mod Shuts
 mod Ranges
 mod Tabled
+mod Chained
 mod Fronts
 mod Totals
 mod Listing

@@ -1,19 +1,19 @@
 -- The open pairs of a word, listed from some place on.
-use Rattle.std.proofs.Common.{◌≡◌, ℕ, zero, suc, ◌+◌, ◌-◌, ◌<◌, ◌≤◌, Bool, true, false, List, [], ◌∷◌, ◌++◌, length, map, take, drop, get_or, append_assoc, add-one, refl, sym, ◌∙◌, ap, subst, arith, inl, inr, ◌⊎◌}
+use Rattle.std.proofs.Common.{◌≡◌, ℕ, zero, suc, ◌+◌, ◌-◌, ◌<◌, ◌≤◌, Bool, true, false, List, [], ◌∷◌, ◌++◌, length, map, take, drop, get_or, append_assoc, add-one, refl, sym, ◌∙◌, ap, arith, inl, inr, ◌⊎◌}
 use Rattle.std.specs.Prelude.{◌&&◌, not, filter}
 use Rattle.std.proofs.Math.Nat.{min-le_left}
 use Rattle.std.proofs.Math.Seq.{drop-cons}
 use Rattle.std.proofs.Math.ListN.{drop_of_length-le}
-use Rattle.std.proofs.lemmas.Bool.{cases_lt, cases_Bool}
-use Rattle.std.proofs.lemmas.List.{append-nil, length-append, length-take, length-take-le, take-append-le, take_all, map-append}
+use Rattle.std.proofs.lemmas.Bool.{cases_lt}
+use Rattle.std.proofs.lemmas.List.{append-nil, length-take, length-take-le, take-append-le, take_all, map-append}
 use Rattle.std.proofs.lemmas.List.Elements.{filter-append}
 use Rattle.plain_search.specs.Edges.{is_acyclic}
 use Rattle.replay_model.specs.Logs.{Log}
 use Rattle.constraints.specs.Constraints.{sources_of, last_reads_from, edges_to}
 use Rattle.races.specs.declared.pair.Pair.{Pair}
-use Rattle.races.specs.Shut.{base_edges, source_at, shuts}
+use Rattle.races.specs.Shut.{base_edges, source_at}
 use Rattle.races.specs.Tables.{IsNext, opens}
-use Rattle.races.specs.Openings.{couples, is_open_couple, pair_at, open_row, open_at}
+use Rattle.races.specs.Openings.{couples, is_open_couple, pair_at, open_row}
 
 -- the open pairs of a source with those from one place on
 abbrev pub row_from : Log → ℕ → ℕ → ℕ → List Pair

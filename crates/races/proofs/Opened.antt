@@ -1,9 +1,9 @@
 -- The pairs of all words.
-use Rattle.std.proofs.Common.{◌≡◌, ℕ, zero, suc, ◌+◌, ◌*◌, ◌<◌, ◌≤◌, Bool, true, false, List, [], ◌∷◌, ◌++◌, length, map, take, refl, sym, ◌∙◌, ap, subst, arith}
+use Rattle.std.proofs.Common.{◌≡◌, ℕ, zero, suc, ◌+◌, ◌≤◌, false, List, [], ◌∷◌, ◌++◌, length, map, take, refl, sym, ◌∙◌, ap, subst, arith}
 use Rattle.std.specs.Prelude.{filter, Option, None, MatchOption}
-use Rattle.std.specs.List.{count_by, flat_map, range_with_len}
-use Rattle.std.proofs.lemmas.List.{length-append, append_assoc, append-nil}
-use Rattle.std.proofs.lemmas.List.Sums.{sum_by-append, count_by-le-length}
+use Rattle.std.specs.List.{flat_map, range_with_len}
+use Rattle.std.proofs.lemmas.List.{length-append}
+use Rattle.std.proofs.lemmas.List.Sums.{sum_by-append}
 use Rattle.plain_search.specs.declared.Edge.{Edge}
 use Rattle.plain_search.specs.Edges.{is_acyclic}
 use Rattle.plain_search.specs.Searches as abstract
@@ -20,7 +20,7 @@ use Rattle.races.specs.declared.open.Open.{Open}
 use Rattle.races.specs.declared.pair.Pair.{Pair}
 use Rattle.races.specs.declared.tally.Tally.{Tally}
 use Rattle.races.specs.Shut.{base_edges}
-use Rattle.races.specs.Openings.{IsTally, IsOpen, both, couples, open_at, open_list, is_open_couple, pair_at}
+use Rattle.races.specs.Openings.{IsTally, IsOpen, both, couples, open_at, is_open_couple, pair_at}
 use Rattle.races.proofs.Ranges.{bit}
 use Rattle.races.proofs.Listing.{take-twice}
 use Rattle.races.proofs.Totals.{pairs-number}

@@ -1,12 +1,11 @@
 -- Tables of a word's sources and the threads.
-use Rattle.std.proofs.Common.{◌≡◌, ℕ, zero, suc, ◌+◌, ◌-◌, ◌*◌, ◌<◌, ◌≤◌, List, [], ◌∷◌, ◌++◌, length, get_or, refl, sym, ◌∙◌, ap, subst, arith, inl, inr, ◌⊎◌}
+use Rattle.std.proofs.Common.{◌≡◌, ℕ, zero, suc, ◌+◌, ◌*◌, ◌<◌, ◌≤◌, List, [], ◌∷◌, ◌++◌, length, get_or, refl, sym, ◌∙◌, ap, subst, arith, inl, inr, ◌⊎◌}
 use Rattle.std.proofs.lemmas.Bool.{cases_lt}
 use Rattle.std.proofs.lemmas.List.{length-append, get_or_append_left, get_or_push}
-use Rattle.std.proofs.lemmas.List.Elements.{Contains-get_or}
 use Rattle.std.proofs.Math.Nat.{mul-le-mul, suc-mul, zero-mul}
 use Rattle.replay_model.specs.Logs.{Log}
 use Rattle.replay_model.specs.WellFormed.{IsWellFormed}
-use Rattle.constraints.specs.Positions.{event_at, event_list}
+use Rattle.constraints.specs.Positions.{event_at}
 use Rattle.constraints.specs.Constraints.{sources_of, group_of}
 use Rattle.constraints.specs.Laws.{IsGrouped}
 use Rattle.constraints.proofs.Listed.{event_there, of_list, event_taken}
@@ -14,7 +13,8 @@ use Rattle.constraints.proofs.Groups.{sources_are_grouped}
 use Rattle.races.specs.Shut.{IsFront, shuts, source_at}
 use Rattle.races.specs.Tables.{AreStarts, AreFronts, AreEnds, IsTable}
 use Rattle.races.specs.declared.table.Table.{Table}
-use Rattle.races.proofs.Shuts.{source-there}
+use Rattle.races.proofs.Shuts.{source-there, group-within}
+use Rattle.races.specs.Bounds.{AreBlocks, AreTops, AreFloors}
 
 pub push-old : (xs : List ℕ) (y k : ℕ) → k < length xs → get_or (xs ++ y ∷ []) k 0 ≡ get_or xs k 0
 push-old xs y k l = get_or_append_left xs (y ∷ []) 0 k l
@@ -121,10 +121,34 @@ ends-none log word threads = record { size = (let e : 0 * threads ≡ 0 = zero-m
 
 -- a table with these parts
 pub table-is : (log : Log) (word : ℕ) (table : Table) → table.threads ≡ length log.threads → table.sources ≡ length (sources_of log word) → AreStarts log word table.starts.items →
-    AreEnds log word (length log.threads) (length (sources_of log word)) table.ends.items → IsTable log word table
-table-is log word table t n starts ends = record {
+    AreEnds log word (length log.threads) (length (sources_of log word)) table.ends.items → AreTops table.threads table.threads table.starts.items table.ends.items table.tops.items →
+    AreFloors table.threads table.threads table.starts.items table.ends.items table.floors.items → IsTable log word table
+table-is log word table t n starts ends tops floors = record {
   threads = t;
   sources = n;
   starts = starts;
   ends = subst (λ k. AreEnds log word k table.sources table.ends.items) (sym t) (subst (λ k. AreEnds log word (length log.threads) k table.ends.items) (sym n) ends);
+  tops = tops;
+  floors = floors;
 }
+
+-- the threads' sources are blocks
+pub blocks-are : (log : Log) (word threads : ℕ) (starts : List ℕ) → IsWellFormed log → threads ≡ length log.threads → AreStarts log word starts → AreBlocks threads (length (sources_of log word)) starts
+blocks-are log word threads starts formed e s = subst (λ n. AreBlocks n (length (sources_of log word)) starts) (sym e) record {
+  size = s.size;
+  rise = λ b l. (let x = s.begin b l in let y = s.end b l in let z = (sources_are_grouped log word formed).rising b in omega (arith, x, y, z));
+  within = λ b l. (let y = s.end b l in let z = group-within log word b in omega (arith, y, z));
+}
+
+pub ends-size : (log : Log) (word threads : ℕ) (ends : List ℕ) → threads ≡ length log.threads → AreEnds log word (length log.threads) (length (sources_of log word)) ends → length ends ≡ length (sources_of log word) * threads
+ends-size log word threads ends e s = let q = ap (λ n. length (sources_of log word) * n) e in let z = s.size in omega (arith, q, z)
+
+-- bounds over the same lists
+pub tops-same : (width : ℕ) (starts read ends lent tops : List ℕ) → read ≡ starts → lent ≡ ends → AreTops width width read lent tops → AreTops width width starts ends tops
+tops-same width starts read ends lent tops e q a = subst (λ s. AreTops width width s ends tops) e (subst (λ n. AreTops width width read n tops) q a)
+
+pub floors-over : (width : ℕ) (starts read ends lent floors : List ℕ) → read ≡ starts → lent ≡ ends → AreFloors width width read lent floors → AreFloors width width starts ends floors
+floors-over width starts read ends lent floors e q a = subst (λ s. AreFloors width width s ends floors) e (subst (λ n. AreFloors width width read n floors) q a)
+
+pub blocks-read : (log : Log) (word threads : ℕ) (starts read : List ℕ) → read ≡ starts → IsWellFormed log → threads ≡ length log.threads → AreStarts log word starts → AreBlocks threads (length (sources_of log word)) read
+blocks-read log word threads starts read q formed e s = subst (AreBlocks threads (length (sources_of log word))) (sym q) (blocks-are log word threads starts formed e s)

@@ -1,29 +1,27 @@
 -- The pairs of a word, counted by what each source shuts.
-use Rattle.std.proofs.Common.{◌≡◌, ℕ, zero, suc, ◌+◌, ◌-◌, ◌*◌, ◌/◌, ◌^◌, ◌<◌, ◌≤◌, Bool, true, false, cond, List, [], ◌∷◌, ◌++◌, length, map, get_or, refl, sym, ◌∙◌, ap, subst, arith, inl, inr, ◌⊎◌}
+use Rattle.std.proofs.Common.{◌≡◌, ℕ, zero, suc, ◌+◌, ◌-◌, ◌<◌, ◌≤◌, Bool, true, false, cond, List, [], ◌∷◌, ◌++◌, length, map, get_or, refl, sym, ◌∙◌, ap, subst, arith, inl, inr}
 use Rattle.std.specs.Prelude.{◌&&◌, not, Contains}
 use Rattle.std.specs.List.{sum_by, count_by, range_with_len}
-use Rattle.std.proofs.lemmas.Bool.{cases_Bool, false_from_ne_true, both_ways}
+use Rattle.std.proofs.lemmas.Bool.{false_from_ne_true}
 use Rattle.std.proofs.lemmas.List.{same_lists, length-map, length-append, get_or_default}
 use Rattle.std.proofs.lemmas.List.Sums.{sum_by-cons, sum_by-append}
-use Rattle.std.proofs.lemmas.List.FromFn.{length-range_with_len, length-map-range_with_len, get_or-map-range_with_len}
+use Rattle.std.proofs.lemmas.List.FromFn.{length-map-range_with_len, get_or-map-range_with_len}
 use Rattle.std.proofs.lemmas.List.Elements.{Contains-get_or, All-get_or}
-use Rattle.plain_search.specs.declared.Edge.{Edge}
-use Rattle.plain_search.specs.Edges.{is_acyclic, Holds}
+use Rattle.plain_search.specs.Edges.{is_acyclic}
 use Rattle.plain_search.specs.Searches.{Pair, is_open}
-use Rattle.plain_search.specs.Openness.{is_shut, is_forced, is_stuck}
+use Rattle.plain_search.specs.Openness.{is_forced, is_stuck}
 use Rattle.plain_search.proofs.Decided.{counted}
 use Rattle.plain_search.proofs.Rankings.{acyclic-ranked, Holds-split}
 use Rattle.replay_model.specs.Logs.{Log}
 use Rattle.replay_model.specs.WellFormed.{IsWellFormed}
 use Rattle.constraints.specs.Constraints.{sources_of, last_reads_from, edges_to, pair_of, pairs_among, pairs_at}
 use Rattle.constraints.specs.SideEdges.{pair_count, sum_pairs}
-use Rattle.constraints.proofs.PairSums.{pairs-short, pair_count-small}
+use Rattle.constraints.proofs.PairSums.{pairs-short}
 use Rattle.constraints.proofs.Points.{count-none}
 use Rattle.constraints.proofs.Shapes.{sources_rise, sources_are_read}
-use Rattle.races.specs.declared.tally.Tally.{Tally}
 use Rattle.races.specs.Shut.{base_edges, source_at, shuts}
 use Rattle.races.specs.Tables.{sticks}
-use Rattle.races.specs.Openings.{IsTally, shut_total}
+use Rattle.races.specs.Openings.{shut_total}
 use Rattle.races.proofs.Ranges.{bit}
 use Rattle.races.proofs.Sides.{AtMost, holds-side}
 

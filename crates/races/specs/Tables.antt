@@ -5,6 +5,7 @@ use Rattle.constraints.specs.Constraints.{sources_of, group_of}
 use Rattle.races.specs.declared.table.Table.{Table}
 use Rattle.races.specs.declared.table.Row.{Row}
 use Rattle.races.specs.Shut.{shuts, IsFront}
+use Rattle.races.specs.Bounds.{AreTops, AreFloors}
 
 -- where each thread's sources of the word begin, and at the end their number
 pub record AreStarts (log : Log) (word : ℕ) (starts : List ℕ) : Type 0 where
@@ -28,12 +29,18 @@ pub record IsTable (log : Log) (word : ℕ) (table : Table) : Type 0 where
   pub sources : table.sources ≡ length (sources_of log word)
   pub starts : AreStarts log word table.starts.items
   pub ends : AreEnds log word table.threads table.sources table.ends.items
+  pub tops : AreTops table.threads table.threads table.starts.items table.ends.items table.tops.items
+  pub floors : AreFloors table.threads table.threads table.starts.items table.ends.items table.floors.items
 
 -- a place among the word's sources, with its thread
 pub record IsRow (log : Log) (row : Row) : Type 0 where
   pub thread : row.thread < length log.threads
   pub begin : (group_of log row.word row.thread).0 ≤ row.place
   pub end : row.place < (group_of log row.word row.thread).1
+
+-- the places from one to another are those of sources of one thread
+abbrev pub IsStretch : Log → ℕ → ℕ → ℕ → Type 0
+IsStretch log word from to = (t : ℕ) × (t < length log.threads) × ((group_of log word t).0 ≤ from) × (to ≤ (group_of log word t).1)
 
 -- neither of two sources may not come first, and both may not
 abbrev pub opens : Log → ℕ → ℕ → ℕ → Bool

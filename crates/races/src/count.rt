@@ -1,10 +1,10 @@
 // How many pairs of one source there are of each kind.
-ghost use Rattle.std.specs.Prelude.{◌≡◌, ◌+◌, ◌-◌, ◌*◌, ◌<◌, ◌≤◌, ◌^◌, length};
+ghost use Rattle.std.specs.Prelude.{◌≡◌, ℕ, ◌+◌, ◌-◌, ◌*◌, ◌<◌, ◌≤◌, ◌^◌, true, false, length};
 ghost use Rattle.std.specs.List.{count_by, range_with_len};
 ghost use Rattle.constraints.specs.Constraints.{sources_of, group_of, pairs_at};
 ghost use Rattle.plain_search.specs.Openness.{is_stuck};
 ghost use Rattle.races.specs.Shut.{shuts, base_edges};
-ghost use Rattle.races.specs.Tables.{IsTable, IsRow, sticks};
+ghost use Rattle.races.specs.Tables.{IsTable, IsRow, IsStretch, sticks};
 ghost use Rattle.races.specs.Openings.{IsTally, shut_total};
 
 use crate::shut::Source;
@@ -27,15 +27,33 @@ fn shut_count(problem: &Problem, table: &Table, source: Source) -> u64
     count
 }
 
+// Whether it is seen at once that each of the sources from one place to another may come before the row's.
+fn none_is_back(problem: &Problem, table: &Table, row: Row, from: u32, to: u32) -> bool
+    requires table { IsTable problem.now row.word table.now }
+    requires row { IsRow problem.now row }
+    requires stretch { IsStretch problem.now row.word from to }
+    ensures { result ≡ true → (j : ℕ) → from ≤ j → j < to → shuts problem.now row.word j row.place ≡ false }
+{
+    let _events = problem.events();
+    if from >= to {
+        return true;
+    }
+    table.tops[(to - 1) as usize * table.threads + row.thread] <= row.place
+}
+
 // How many of the sources from one place to another may not come before the row's.
 fn back_count(problem: &Problem, table: &Table, row: Row, from: u32, to: u32) -> u64
     requires table { IsTable problem.now row.word table.now }
     requires row { IsRow problem.now row }
     requires from { from ≤ to }
     requires to { to ≤ length (sources_of problem.now row.word) }
+    requires stretch { IsStretch problem.now row.word from to }
     ensures { result ≡ count_by (λ j. shuts problem.now row.word j row.place) (range_with_len from (to - from)) }
 {
     let _events = problem.events();
+    if none_is_back(problem, table, row, from, to) {
+        return 0;
+    }
     let mut count: u64 = 0;
     for place in from..to {
         if row.place < table.ends[place as usize * table.threads + row.thread] {

@@ -2,6 +2,7 @@
 #![tactic(auto)]
 
 mod base;
+mod bounds;
 mod count;
 pub mod laws;
 mod list;

@@ -72,7 +72,8 @@ fn pair_total(problem: &Problem) -> u64
 /// What the base edges alone say of a log's rival pairs: how many there are, how many of them are open, forced and stuck, and the
 /// first `most` of those that are open, or all. The one error is want of memory; the problem stays as it was.
 ///
-/// No pair is listed but those that are answered, and none looked at by itself but those and the ones that are stuck.
+/// No pair is listed but those that are answered. Of the sources of one thread against one source, none is looked at by itself but
+/// where one of them makes an open pair that is to be listed, or a stuck one.
 pub fn open_pairs(alloc: Global, problem: &Problem, most: u32) -> Result<Open, Memory>
     ensures { IfOk result (IsOpen problem.now most) }
 {

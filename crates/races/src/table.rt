@@ -4,6 +4,7 @@ ghost use Rattle.constraints.specs.Constraints.{sources_of, group_of};
 ghost use Rattle.races.specs.Shut.{IsBase, shuts};
 ghost use Rattle.races.specs.Tables.{AreStarts, AreFronts, AreEnds, IsTable, IsRow};
 
+use crate::bounds::{floors_of, tops_of};
 use crate::shut::{Source, shut_end};
 use constraints::Problem;
 use light_base::Memory;
@@ -19,6 +20,10 @@ pub struct Table {
     pub starts: Vec<u32>,
     // Source after source, for each thread the place after the last of its sources before which this one may not come.
     pub ends: Vec<u32>,
+    // In the same places, no less than these ends of this source and of those before it of its thread.
+    pub tops: Vec<u32>,
+    // And no more than those of this source and of those behind it of its thread.
+    pub floors: Vec<u32>,
 }
 
 /// A source of a word, by its place, with its thread.
@@ -90,11 +95,16 @@ pub fn table_of(alloc: Global, problem: &Problem, graph: &Graph, word: u16) -> R
     let starts = starts_of(alloc, problem, word)?;
     let ends = ends_of(alloc, problem, graph, word)?;
     let _events = problem.events();
+    let threads = problem.counts().len();
+    let tops = tops_of(alloc, &starts, &ends, threads)?;
+    let floors = floors_of(alloc, &starts, &ends, threads)?;
     Ok(Table {
-        threads: problem.counts().len(),
+        threads,
         sources: problem.sources(word).len(),
         starts,
         ends,
+        tops,
+        floors,
     })
 }
 

@@ -1,6 +1,6 @@
-use Rattle.std.proofs.Common.{arith}
+use Rattle.std.proofs.Common.{arith, sym}
 use Rattle.races.specs.Shut.{shuts}
-use Rattle.races.proofs.Ranges.{counted-yes, counted-no}
+use Rattle.races.proofs.Ranges.{counted-yes, counted-no, counted-none}
 use Rattle.races.proofs.Fronts.{back-yes, back-no}
 use Rattle.races.proofs.count.back_count.Goals as goal
 use Rattle.races.proofs.count.back_count.Goals.{then-row-index, else-row-index}
@@ -28,3 +28,6 @@ loop-place-preserved c =
         few = omega (arith, q, b, a);
       })
     ]
+
+pub returns-then-none_is_back : goal.returns-then-none_is_back
+returns-then-none_is_back c = sym (counted-none (λ j. shuts c.args.problem.now c.args.row.word j c.args.row.place) c.args.from c.args.to (c.none_is_back.ensures c.if-none_is_back.true))

@@ -1,4 +1,4 @@
-use Rattle.std.proofs.Common.{◌+◌, ◌*◌, get_or, arith}
+use Rattle.std.proofs.Common.{arith}
 use Rattle.races.specs.Shut.{shuts}
 use Rattle.races.proofs.Ranges.{front-more}
 use Rattle.races.proofs.Fronts.{end-at, start-at}

@@ -1,4 +1,4 @@
-use Rattle.std.proofs.Common.{◌+◌, ◌-◌, length, arith}
+use Rattle.std.proofs.Common.{length, arith}
 use Rattle.std.specs.List.{count_by, range_with_len}
 use Rattle.constraints.specs.Constraints.{sources_of}
 use Rattle.constraints.proofs.SideEdges.{sources_few}

@@ -1,5 +1,5 @@
-use Rattle.std.proofs.Common.{◌≡◌, ◌≤◌, ◌+◌, ◌*◌, get_or, length, arith, ap, subst, sym, refl}
-use Rattle.constraints.specs.Constraints.{sources_of, group_of}
+use Rattle.std.proofs.Common.{◌<◌, ◌+◌, length, arith, subst, sym}
+use Rattle.constraints.specs.Constraints.{group_of}
 use Rattle.constraints.proofs.SideEdges.{sources_few}
 use Rattle.races.specs.Shut.{IsFront, shuts}
 use Rattle.races.proofs.Ranges.{counted-le}
@@ -20,6 +20,17 @@ back_count-count-requires-clause-to c =
     let h = f.high in
     let g = group-within c.args.problem.now c.args.row.word c.loop-thread.thread in
     omega (arith, h, g)
+
+pub back_count-count-requires-clause-stretch : goal.back_count-count-requires-clause-stretch
+back_count-count-requires-clause-stretch c =
+    let t = c.loop-thread.thread in
+    let k = c.requires.table.threads in
+    let y = c.loop-thread-test.true in
+    let m : t < length c.args.problem.now.threads = omega (arith, k, y) in
+    let z = c.requires.table.starts.begin t m in
+    let b = c.loop-thread.invariant.begin in
+    let f = end-at c.args.problem.now c.args.row.word c.args.row.place t c.args.table.now c.index-end.result.now c.requires.table (row-in c.args.problem.now c.args.row c.requires.row) y c.index-end.ensures in
+    (t, m, omega (arith, z, b), f.high)
 
 pub overflow_add-count : goal.overflow_add-count
 overflow_add-count c =

@@ -1,5 +1,5 @@
 use Rattle.std.proofs.Common.{◌≡◌, ◌+◌, ◌-◌, ◌∙◌, length, arith, ap}
-use Rattle.std.specs.List.{count_by, sum_by, range_with_len}
+use Rattle.std.specs.List.{sum_by, range_with_len}
 use Rattle.constraints.specs.Constraints.{sources_of}
 use Rattle.constraints.proofs.SideEdges.{sources_few}
 use Rattle.races.specs.Tables.{sticks}

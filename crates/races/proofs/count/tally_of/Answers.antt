@@ -1,4 +1,4 @@
-use Rattle.std.proofs.Common.{◌∙◌, ap, arith}
+use Rattle.std.proofs.Common.{ap, arith}
 use Rattle.constraints.specs.SideEdges.{pair_count}
 use Rattle.constraints.proofs.SideEdges.{sources_few}
 use Rattle.races.proofs.Totals.{shut-number, kinds-number, pairs-number}

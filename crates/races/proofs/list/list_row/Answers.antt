@@ -1,4 +1,4 @@
-use Rattle.std.proofs.Common.{◌+◌, ◌++◌, ◌∷◌, [], take, ◌∙◌, sym, ap, arith}
+use Rattle.std.proofs.Common.{◌∙◌, arith}
 use Rattle.constraints.proofs.SideEdges.{sources_few}
 use Rattle.races.proofs.Fronts.{row-in}
 use Rattle.races.proofs.Listing.{row-begun, row-pushed, next-here}

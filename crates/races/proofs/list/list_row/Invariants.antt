@@ -1,4 +1,4 @@
-use Rattle.std.proofs.Common.{◌≡◌, ◌≤◌, ◌<◌, ◌-◌, ◌+◌, ◌++◌, length, take}
+use Rattle.std.proofs.Common.{◌≡◌, ◌≤◌, ◌<◌, ◌-◌, ◌++◌, length, take}
 use Rattle.constraints.specs.Constraints.{sources_of}
 use Rattle.races.specs.Openings.{open_row}
 use Rattle.races.specs.Tables.{IsNext, opens}

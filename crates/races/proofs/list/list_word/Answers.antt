@@ -1,4 +1,4 @@
-use Rattle.std.proofs.Common.{◌+◌, ◌++◌, take, ◌∙◌, sym, ap, arith, subst}
+use Rattle.std.proofs.Common.{◌∙◌, arith}
 use Rattle.constraints.proofs.SideEdges.{sources_few}
 use Rattle.races.proofs.Listing.{rows-listed, listed-few, row-alike}
 use Rattle.races.proofs.list.list_word.Goals as goal

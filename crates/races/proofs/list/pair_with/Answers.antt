@@ -1,4 +1,3 @@
-use Rattle.std.proofs.Common.{◌∙◌, ap, arith, get_or, length}
 use Rattle.races.proofs.Shuts.{source-event}
 use Rattle.races.proofs.list.pair_with.Goals as goal
 

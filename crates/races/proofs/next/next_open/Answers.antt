@@ -1,4 +1,4 @@
-use Rattle.std.proofs.Common.{◌≡◌, ◌≤◌, arith, subst, sym}
+use Rattle.std.proofs.Common.{◌<◌, arith, subst, sym, length}
 use Rattle.constraints.specs.Constraints.{group_of}
 use Rattle.races.specs.Shut.{IsFront, shuts}
 use Rattle.races.proofs.Shuts.{group-within}
@@ -21,6 +21,18 @@ next_back-at-requires-clause-to c =
     let m = next-at c.args.problem.now c.args.row.word c.loop-thread.thread c.args.table.now c.index-next.result.now c.requires.table c.loop-thread-test.true c.index-next.ensures in
     let g = group-within c.args.problem.now c.args.row.word c.loop-thread.thread in
     omega (arith, m, g)
+
+pub next_back-at-requires-clause-stretch : goal.next_back-at-requires-clause-stretch
+next_back-at-requires-clause-stretch c =
+    let t = c.loop-thread.thread in
+    let k = c.requires.table.threads in
+    let y = c.loop-thread-test.true in
+    let n : t < length c.args.problem.now.threads = omega (arith, k, y) in
+    let m = next-at c.args.problem.now c.args.row.word t c.args.table.now c.index-next.result.now c.requires.table y c.index-next.ensures in
+    let z = c.requires.table.starts.begin t n in
+    let b = c.loop-thread.invariant.begin in
+    let e = c.max.ensures in
+    (t, n, omega (arith, z, b, e), omega (arith, m))
 
 pub returns-then-at-next-2 : goal.returns-then-at-next-2
 returns-then-at-next-2 c =

@@ -1,4 +1,4 @@
-use Rattle.std.proofs.Common.{◌+◌, refl, ap, arith}
+use Rattle.std.proofs.Common.{refl, ap, arith}
 use Rattle.races.specs.declared.tally.Tally.{Tally}
 use Rattle.races.proofs.Opened.{tally-more, list-more, all-open}
 use Rattle.races.proofs.open.open_by.Goals as goal

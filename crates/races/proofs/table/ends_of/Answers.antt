@@ -1,4 +1,4 @@
-use Rattle.std.proofs.Common.{arith, sym, subst}
+use Rattle.std.proofs.Common.{arith}
 use Rattle.constraints.proofs.SideEdges.{sources_few}
 use Rattle.races.proofs.table.ends_of.Goals as goal
 

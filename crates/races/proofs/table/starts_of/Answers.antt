@@ -1,4 +1,4 @@
-use Rattle.std.proofs.Common.{◌∙◌, ap, refl, arith, length}
+use Rattle.std.proofs.Common.{arith}
 use Rattle.races.proofs.Based.{counts-length}
 use Rattle.races.proofs.Tabled.{starts-none, starts-more, starts-done}
 use Rattle.races.proofs.table.starts_of.Goals as goal

@@ -1,6 +1,6 @@
 use Rattle.std.proofs.Common.{◌≡◌, ◌≤◌, ◌<◌, ◌-◌, ℕ, true}
 use Rattle.races.specs.Shut.{shuts}
-use Rattle.races.proofs.next.next_back.Given as goal
+use Rattle.races.proofs.next.scan_back.Given as goal
 
 abbrev pub invariant-loop-place : goal.invariant-loop-place
 invariant-loop-place l = record {
