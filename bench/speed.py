@@ -4,15 +4,24 @@
 Run it after `make run`, which builds the program:  python3 bench/speed.py [path of the program]
 Each line has the least processor time of some runs. Where valgrind is there, it counts the processor instructions that
 one more memory step costs. It is no part of the gate.
+
+    python3 bench/speed.py --beside FOLDER [path of the program]
+
+records, plays and replays the programs of families.py beside the same machine by hand in C. The folder has its two programs:
+`light IMAGE LOG STEPS INSTR ENTRIES` records on threads, `bare IMAGE STEPS INSTR ENTRIES --turns` plays by turns, and both
+print the transcript. A line has the ratio of processor time an instruction, and both times: the least of seven runs, taken
+in turn.
 """
 
+import argparse
 import os
 import resource
 import shutil
 import struct
 import subprocess
-import sys
 import tempfile
+
+from families import FAMILIES
 
 HERE = os.path.dirname(os.path.abspath(__file__))
 PROGRAM = os.path.join(HERE, "..", "crates", "light_cli", "out", "light_cli")
@@ -118,8 +127,81 @@ def step_cost(program, path, words, code, threads):
     return (counts[1] - counts[0]) / 100_000
 
 
+MOST = ["268435455", str(MOST_INSTR), "16384"]
+TIMES = 7
+
+
+def an_instruction(command):
+    """The processor time of a run, in nanoseconds an instruction of the program that it plays."""
+    before = processor_time()
+    done = subprocess.run(command, capture_output=True, text=True, check=True)
+    used = processor_time() - before
+    played = sum(int(line.split()[-1]) for line in done.stdout.splitlines() if line.startswith("thread "))
+    return used * 1e9 / played
+
+
+def say(what, ours, peer):
+    print(f"{what}: {ours / peer:.2f} times ({ours:.2f} ns an instruction, C {peer:.2f})", flush=True)
+
+
+def record_beside(program, folder, name, path):
+    """Records a program by both in turn, and replays our log. The least time of recording in C."""
+    log, schedule = path + ".log", path + ".order"
+    ours, peers, replays = [], [], []
+    for _ in range(TIMES):
+        peers.append(an_instruction([os.path.join(folder, "light"), path, path + ".c", *MOST]))
+        ours.append(an_instruction([program, "record", path, log, *MOST]))
+        solve = processor_time()
+        subprocess.run([program, "solve", log, schedule, "0"], capture_output=True, check=True)
+        solve = processor_time() - solve
+        replays.append(replay_without(program, path, log, schedule, solve))
+    say(f"{name}, recorded on threads", min(ours), min(peers))
+    say(f"{name}, replayed without solving, beside recording it in C", min(replays), min(peers))
+
+
+def replay_without(program, path, log, schedule, solve):
+    """The processor time of a replay without that of solving, in nanoseconds an instruction."""
+    before = processor_time()
+    done = subprocess.run([program, "replay", path, log, schedule, "0"], capture_output=True, text=True, check=True)
+    used = processor_time() - before - solve
+    played = sum(int(line.split()[-1]) for line in done.stdout.splitlines() if line.startswith("thread "))
+    return used * 1e9 / played
+
+
+def run_beside(program, folder, name, path):
+    """Plays a program by turns, by both in turn."""
+    ours, peers = [], []
+    for _ in range(TIMES):
+        peers.append(an_instruction([os.path.join(folder, "bare"), path, *MOST, "--turns"]))
+        ours.append(an_instruction([program, "run", path, *MOST]))
+    say(f"{name}, played by turns", min(ours), min(peers))
+
+
+def beside(program, folder):
+    """The programs of families.py beside those of the folder."""
+    with tempfile.TemporaryDirectory() as place:
+        for name, text in FAMILIES:
+            path = os.path.join(place, name)
+            with open(path + ".asm", "w") as file:
+                file.write(text)
+            subprocess.run([program, "asm", path + ".asm", path], check=True)
+            record_beside(program, folder, name, path)
+            run_beside(program, folder, name, path)
+
+
 def main():
-    program = sys.argv[1] if len(sys.argv) > 1 else PROGRAM
+    parser = argparse.ArgumentParser(description=__doc__, formatter_class=argparse.RawDescriptionHelpFormatter)
+    parser.add_argument("--beside", metavar="FOLDER", help="the programs by hand in C")
+    parser.add_argument("program", nargs="?", default=PROGRAM)
+    told = parser.parse_args()
+    if told.beside:
+        beside(told.program, told.beside)
+    else:
+        alone(told.program)
+
+
+def alone(program):
+    """What `light run` takes."""
     with tempfile.TemporaryDirectory() as folder:
         path = os.path.join(folder, "bench.img")
         for name, words, threads, limits, count in CASES:
