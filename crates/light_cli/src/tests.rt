@@ -11,6 +11,9 @@ use std::io::{self, ErrorKind, Read, Write};
 use std::process::ExitCode;
 use std::test::Fail;
 
+mod failing_files;
+mod saves;
+
 // A program of one thread that halts at once.
 const SMALLEST: [u8; 21] = [
     76, 73, 77, 49, 1, 0, 1, 0, 1, 0, 0, 0, 0, 0, 0, 0, 0, 0, 0, 0, 0,
