@@ -1,5 +1,5 @@
 -- How a file is saved.
-use Rattle.std.specs.Prelude.{◌≡◌, ◌≢◌, ⊥, ℕ, List, codes, decimal, ◌++◌, Bool, true, false, if◌then◌else◌, Result, Ok, Err}
+use Rattle.std.specs.Prelude.{◌≡◌, ◌≢◌, ℕ, List, codes, decimal, ◌++◌, Bool, true, false, if◌then◌else◌, Result, Ok, Err}
 use Rattle.std.specs.Fs.{file_type, IsFile}
 use Rattle.std.specs.IoError.{error_kind}
 use Rattle.std.specs.Path.{path_with_file_name}

@@ -1,8 +1,7 @@
 // How a file is saved: where that can be, a new file beside it takes its name, so that a save that fails leaves what was there.
-ghost use Rattle.std.specs.Prelude.{◌≡◌, ◌≢◌, ◌⊎◌, ℕ, ◌<◌, IfOk, IfErr, OnOk};
+ghost use Rattle.std.specs.Prelude.{◌≡◌, ◌⊎◌, ℕ, ◌<◌, IfOk, IfErr, OnOk};
 ghost use Rattle.std.specs.Io.KnownBytes.{Appends};
 ghost use Rattle.std.specs.Path.{path_buf_bytes};
-ghost use Rattle.light_base.specs.declared.store.StoreFault.TheVariants as fault;
 ghost use Rattle.light_cli.specs.Saving.{IsWay, name_beside, cause_of};
 
 use light_base::StoreFault;
@@ -77,7 +76,7 @@ pub fn path_beside(alloc: Global, name: &str, number: u16) -> Result<PathBuf, Al
 /// Writes all the bytes.
 pub fn write_whole<W: Write>(file: &mut W, bytes: &[u8]) -> Result<(), StoreFault>
     ensures written { OnOk result (Appends (W.contents file.old) (W.contents file.new) bytes.now) }
-    ensures cause { IfErr result (λ fault. fault ≡ fault.Failed) }
+    ensures cause { IfErr result (λ fault. fault ≡ StoreFault.Failed) }
 {
     match file.write_all(bytes) {
         Ok(()) => Ok(()),
@@ -173,7 +172,7 @@ fn replace<R: Files>(
 
 // Writes the bytes into the file itself.
 fn overwrite<R: Files>(files: &R, name: &str, bytes: &[u8]) -> Result<(), StoreFault>
-    ensures { IfErr result (λ fault. fault ≡ fault.Failed) }
+    ensures { IfErr result (λ fault. fault ≡ StoreFault.Failed) }
 {
     match fs::create(files, name) {
         Ok(mut file) => write_whole(&mut file, bytes),
@@ -189,7 +188,7 @@ fn replace_or_overwrite<R: Files>(
     old: Option<&Metadata>,
     bytes: &[u8],
 ) -> Result<(), StoreFault>
-    ensures { IfErr result (λ fault. (fault ≡ fault.Failed) ⊎ (fault ≡ fault.Memory)) }
+    ensures { IfErr result (λ fault. (fault ≡ StoreFault.Failed) ⊎ (fault ≡ StoreFault.Memory)) }
 {
     match replace(alloc, files, name, old, bytes) {
         Ok(()) => Ok(()),
@@ -215,7 +214,7 @@ pub fn save_file<R: Files>(
     name: &str,
     bytes: &[u8],
 ) -> Result<(), StoreFault>
-    ensures { IfErr result (λ fault. (fault ≡ fault.Failed) ⊎ (fault ≡ fault.Memory)) }
+    ensures { IfErr result (λ fault. (fault ≡ StoreFault.Failed) ⊎ (fault ≡ StoreFault.Memory)) }
 {
     match way_of(fs::symlink_metadata(files, name)) {
         Way::Create => replace_or_overwrite(alloc, files, name, None, bytes),
