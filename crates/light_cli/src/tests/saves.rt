@@ -54,11 +54,19 @@ fn a_save_that_fails_leaves_what_was_there(rt: HostRuntime) -> Result<(), Fail> 
         fs::write(&rt, "left.img", OLD)?;
         let files = FailingFiles::new(&rt, call, kind);
         let mut store = FileStore::new(&files, alloc);
-        assert_eq!(rt; store.save("left.img", NEW), Err(StoreFault::Failed), "{call:?}");
+        assert_eq!(rt;
+            store.save("left.img", NEW),
+            Err(StoreFault::Failed),
+            "{call:?}"
+        );
         assert!(rt; has(&rt, "left.img", OLD)?, "{call:?}");
         assert!(rt; !fs::exists(&rt, FIRST_BESIDE)?, "{call:?}");
         if call != Call::OpenOld {
-            assert_eq!(rt; store.save("none.img", NEW), Err(StoreFault::Failed), "{call:?}");
+            assert_eq!(rt;
+                store.save("none.img", NEW),
+                Err(StoreFault::Failed),
+                "{call:?}"
+            );
             assert!(rt; !fs::exists(&rt, "none.img")?, "{call:?}");
             assert!(rt; !fs::exists(&rt, FIRST_BESIDE)?, "{call:?}");
         }
@@ -83,7 +91,11 @@ fn a_file_that_may_not_be_replaced_is_written_into(rt: HostRuntime) -> Result<()
         let mut store = FileStore::new(&files, alloc);
         assert_eq!(rt; store.save("barred.img", NEW), Ok(()), "{call:?}");
         assert!(rt; has(&rt, "barred.img", NEW)?, "{call:?}");
-        assert_eq!(rt; fs::metadata(&rt, "barred.img")?.ino(), old.ino(), "{call:?}");
+        assert_eq!(rt;
+            fs::metadata(&rt, "barred.img")?.ino(),
+            old.ino(),
+            "{call:?}"
+        );
         assert!(rt; !fs::exists(&rt, FIRST_BESIDE)?, "{call:?}");
     }
     Ok(())
