@@ -1,29 +1,34 @@
 // A store over real files. It tells nothing of them.
-ghost use Rattle.std.specs.Prelude.{◌≡◌, ◌≤◌, ◌<◌, ◌^◌, length, IfOk, IfErr, IfSome, OnOk, ◌+◌};
-ghost use Rattle.std.specs.Io.KnownBytes.{Appends};
+ghost use Rattle.std.specs.Prelude.{◌≡◌, ◌≤◌, ◌<◌, ◌^◌, length, IfOk, IfErr, IfSome, ◌+◌};
 ghost use Rattle.light_cli.specs.Reading.{ReadFails};
 ghost use Rattle.light_cli.specs.Telling.{untold_files};
 
+use crate::saving::save_file;
 use light_base::{Store, StoreFault};
 use std::alloc::Global;
 use std::fs;
-use std::io::{ErrorKind, Read, Write};
+use std::io::{ErrorKind, Read};
 use std::rt::Files;
 
-/// Files of the system, by their paths. Each failure is counted.
+/// Files of the system, by their paths. Each failure is counted. A save takes memory of its own.
 #[derive(Drop)]
 pub struct FileStore<'a, R> {
     rt: &'a R,
+    alloc: Global,
     faults: u64,
     ghost counted: { faults < 2 ^ 64 },
 }
 
 impl<'a, R: Files> FileStore<'a, R> {
     /// The files of this system, with no fault so far.
-    pub fn new(rt: &'a R) -> Self
+    pub fn new(rt: &'a R, alloc: Global) -> Self
         ensures { result.faults ≡ 0 }
     {
-        FileStore { rt, faults: 0 }
+        FileStore {
+            rt,
+            alloc,
+            faults: 0,
+        }
     }
 }
 
@@ -56,17 +61,6 @@ pub fn read_all<F: Read>(alloc: Global, file: &mut F, cap: u64) -> Result<Vec<u8
     Err(StoreFault::Failed)
 }
 
-// Writes all the bytes.
-fn write_whole<W: Write>(file: &mut W, bytes: &[u8]) -> Result<(), StoreFault>
-    ensures written { OnOk result (Appends (W.contents file.old) (W.contents file.new) bytes.now) }
-    ensures cause { IfErr result (λ fault. fault ≡ StoreFault.Failed) }
-{
-    match file.write_all(bytes) {
-        Ok(()) => Ok(()),
-        Err(_) => Err(StoreFault::Failed),
-    }
-}
-
 impl<R: Files> Store for FileStore<'_, R> {
     ghost told = { λ s. untold_files s.faults };
 
@@ -86,13 +80,13 @@ impl<R: Files> Store for FileStore<'_, R> {
     }
 
     fn save(&mut self, name: &str, bytes: &[u8]) -> Result<(), StoreFault> {
-        let outcome = match fs::create(self.rt, name) {
-            Ok(mut file) => write_whole(&mut file, bytes),
-            Err(_) => Err(StoreFault::Failed),
-        };
-        if outcome.is_err() {
-            self.faults = self.faults.saturating_add(1);
+        match save_file(self.alloc, self.rt, name, bytes) {
+            Ok(()) => Ok(()),
+            Err(StoreFault::Memory) => Err(StoreFault::Memory),
+            Err(_) => {
+                self.faults = self.faults.saturating_add(1);
+                Err(StoreFault::Failed)
+            }
         }
-        outcome
     }
 }

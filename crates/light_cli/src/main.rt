@@ -3,6 +3,7 @@
 
 mod ending;
 mod file_store;
+mod saving;
 mod std_sink;
 mod words;
 
@@ -18,7 +19,7 @@ fn main(rt: HostRuntime) -> ExitCode {
     let alloc = rt.alloc();
     let status = match words_of(alloc, env::args(&rt)) {
         Ok(words) => {
-            let mut store = FileStore::new(&rt);
+            let mut store = FileStore::new(&rt, alloc);
             let mut out = StdSink::new(rt.stdout());
             light(&rt, alloc, &words, &mut store, &mut out, &OpenGate)
         }

@@ -11,6 +11,9 @@ use std::io::{self, ErrorKind, Read, Write};
 use std::process::ExitCode;
 use std::test::Fail;
 
+mod failing_files;
+mod saves;
+
 // A program of one thread that halts at once.
 const SMALLEST: [u8; 21] = [
     76, 73, 77, 49, 1, 0, 1, 0, 1, 0, 0, 0, 0, 0, 0, 0, 0, 0, 0, 0, 0,
@@ -28,7 +31,7 @@ fn words_of(alloc: Global, line: &str) -> Result<Vec<String>, AllocError> {
 #[test]
 fn files_are_saved_and_loaded(rt: HostRuntime) -> Result<(), Fail> {
     let alloc = rt.alloc();
-    let mut store = FileStore::new(&rt);
+    let mut store = FileStore::new(&rt, alloc);
     assert!(rt; store.save("saved.img", &SMALLEST).is_ok());
     let bytes = store.load(alloc, "saved.img", 21);
     assert!(rt; bytes.is_ok_and(|bytes| bytes.as_slice() == SMALLEST.as_slice()));
@@ -55,7 +58,7 @@ fn a_full_device_is_an_output_fault(rt: HostRuntime) -> Result<(), Fail> {
 #[test]
 fn an_image_of_a_file_is_played(rt: HostRuntime) -> Result<(), Fail> {
     let alloc = rt.alloc();
-    let mut store = FileStore::new(&rt);
+    let mut store = FileStore::new(&rt, alloc);
     assert!(rt; store.save("played.img", &SMALLEST).is_ok());
     let words = words_of(alloc, "run played.img 10 10 10")?;
     let mut out = StdSink::new(fs::create(&rt, "played.txt")?);
