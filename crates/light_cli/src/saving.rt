@@ -130,14 +130,14 @@ fn hand_over<R: Files>(files: &R, new: &Beside<R::File>, old: &Metadata) -> Resu
     }
 }
 
-// Writes all the bytes of a new file, until they are on the disk, and gives it the name.
+// Writes all the bytes of a new file, and gives it the name.
 fn fill<R: Files>(
     files: &R,
     new: &mut Beside<R::File>,
     name: &str,
     bytes: &[u8],
 ) -> Result<(), Unreplaced> {
-    if write_whole(&mut new.file, bytes).is_err() || new.file.sync_all().is_err() {
+    if write_whole(&mut new.file, bytes).is_err() {
         return Err(Unreplaced::Failed);
     }
     match fs::rename(files, &new.path, name) {

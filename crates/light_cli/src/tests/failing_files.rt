@@ -12,7 +12,6 @@ pub enum Call {
     Own,
     Permit,
     Write,
-    Sync,
     Rename,
 }
 
@@ -91,7 +90,6 @@ impl<F: OpenFile> OpenFile for FailingFile<F> {
     }
 
     fn sync_all(&self) -> io::Result<()> {
-        self.answer(Call::Sync)?;
         self.inner.sync_all()
     }
 

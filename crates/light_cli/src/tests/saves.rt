@@ -48,7 +48,6 @@ fn a_save_that_fails_leaves_what_was_there(rt: HostRuntime) -> Result<(), Fail> 
         (Call::CreateNew, ErrorKind::StorageFull),
         (Call::Write, ErrorKind::StorageFull),
         (Call::Write, ErrorKind::PermissionDenied),
-        (Call::Sync, ErrorKind::StorageFull),
         (Call::Rename, ErrorKind::StorageFull),
     ] {
         fs::write(&rt, "left.img", OLD)?;
