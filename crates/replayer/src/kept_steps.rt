@@ -12,7 +12,7 @@ use std::marker::Model;
 ///
 /// It is seen as the steps that are left.
 #[derive(Drop)]
-pub(crate) struct KeptSteps {
+pub struct KeptSteps {
     steps: Vec<u32>,
     next: usize,
 }

@@ -11,6 +11,9 @@ mod seat;
 mod words;
 
 pub use difference::{Difference, Kept};
+pub use kept_steps::KeptSteps;
 pub use laws::replay_law;
 pub use order::replay_order;
-pub use replay::{Replay, Replayed, Turned};
+pub use replay::{Replay, Replayed, Turned, opening_kept, opening_seats};
+pub use seat::run_to;
+pub use words::ReplayWords;

@@ -66,8 +66,8 @@ impl<'p> Model for Replay<'p> {
     ghost invariant = { λ r. IsReplaying (record { program = r.program.now; log = r.log.now; turns = r.turns.items }) r.words r.seats.items };
 }
 
-// The threads before any step.
-fn opening_seats(
+/// The threads before any step.
+pub fn opening_seats(
     alloc: Global,
     program: &Program,
     log: &RunLog,
@@ -82,8 +82,8 @@ fn opening_seats(
     Ok(seats)
 }
 
-// For each thread the steps whose writes are made.
-fn opening_kept(alloc: Global, log: &RunLog, count: u8) -> Result<Vec<KeptSteps>, Memory>
+/// For each thread the steps whose writes are made.
+pub fn opening_kept(alloc: Global, log: &RunLog, count: u8) -> Result<Vec<KeptSteps>, Memory>
     ensures { IfOk result (λ kept. AreAllLeft log.now count kept.items) }
 {
     let mut kept = Vec::with_capacity(alloc, usize::from(count))?;

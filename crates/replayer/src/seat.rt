@@ -43,9 +43,9 @@ pub(crate) fn new_seat(
     RunningThread::new(alloc, thread, &on)
 }
 
-// Runs a thread up to and including this step, or to its end: how it ended, where that comes first. A thread that has
-// taken the step already does nothing. After an `Err` it has taken some first ones of these steps.
-pub(crate) fn run_to(
+/// Runs a thread up to and including this step, or to its end: how it ended, where that comes first. A thread that has
+/// taken the step already does nothing. After an `Err` it has taken some first ones of these steps.
+pub fn run_to(
     program: &Program,
     log: &RunLog,
     words: &mut ReplayWords,

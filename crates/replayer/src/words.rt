@@ -5,11 +5,11 @@ use machine::Want;
 use running_thread::StepWords;
 use running_thread::cells::{found_in, word_of, write, written};
 
-/// The words, and for each thread the steps whose writes are still to be made.
+/// The words of a replay, and for each thread the steps whose writes are still to be made.
 #[derive(Drop)]
-pub(crate) struct ReplayWords {
-    pub(crate) cells: Vec<Cell>,
-    pub(crate) kept: Vec<KeptSteps>,
+pub struct ReplayWords {
+    pub cells: Vec<Cell>,
+    pub kept: Vec<KeptSteps>,
 }
 
 impl StepWords for ReplayWords {

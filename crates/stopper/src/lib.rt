@@ -3,5 +3,10 @@
 
 mod cut;
 pub mod laws;
+mod play;
+mod stop;
+mod stray;
 
 pub use cut::cut_of;
+pub use stop::{Snap, Stopped, stop_at};
+pub use stray::Stray;
