@@ -131,11 +131,11 @@ MOST = ["268435455", str(MOST_INSTR), "16384"]
 TIMES = 7
 
 
-def an_instruction(command):
-    """The processor time of a run, in nanoseconds an instruction of the program that it plays."""
+def an_instruction(command, less=0.0):
+    """The processor time of a run, less some seconds, in nanoseconds an instruction of the program that it plays."""
     before = processor_time()
     done = subprocess.run(command, capture_output=True, text=True, check=True)
-    used = processor_time() - before
+    used = processor_time() - before - less
     played = sum(int(line.split()[-1]) for line in done.stdout.splitlines() if line.startswith("thread "))
     return used * 1e9 / played
 
@@ -145,7 +145,7 @@ def say(what, ours, peer):
 
 
 def record_beside(program, folder, name, path):
-    """Records a program by both in turn, and replays our log. The least time of recording in C."""
+    """Records a program by both in turn, and replays our log."""
     log, schedule = path + ".log", path + ".order"
     ours, peers, replays = [], [], []
     for _ in range(TIMES):
@@ -154,18 +154,9 @@ def record_beside(program, folder, name, path):
         solve = processor_time()
         subprocess.run([program, "solve", log, schedule, "0"], capture_output=True, check=True)
         solve = processor_time() - solve
-        replays.append(replay_without(program, path, log, schedule, solve))
+        replays.append(an_instruction([program, "replay", path, log, schedule, "0"], solve))
     say(f"{name}, recorded on threads", min(ours), min(peers))
     say(f"{name}, replayed without solving, beside recording it in C", min(replays), min(peers))
-
-
-def replay_without(program, path, log, schedule, solve):
-    """The processor time of a replay without that of solving, in nanoseconds an instruction."""
-    before = processor_time()
-    done = subprocess.run([program, "replay", path, log, schedule, "0"], capture_output=True, text=True, check=True)
-    used = processor_time() - before - solve
-    played = sum(int(line.split()[-1]) for line in done.stdout.splitlines() if line.startswith("thread "))
-    return used * 1e9 / played
 
 
 def run_beside(program, folder, name, path):
