@@ -22,6 +22,7 @@ mod runs;
 mod searches;
 mod solves;
 mod statuses;
+mod stops;
 mod texts;
 mod told;
 mod usages;
@@ -80,6 +81,8 @@ fn commands_of_logs_end_as_told(rt: HostRuntime) -> Result<(), Fail> {
         replays::DIFFERENT.as_slice(),
         replays::OTHER_PROGRAM.as_slice(),
         replays::STOPPED.as_slice(),
+        stops::SHOWN.as_slice(),
+        stops::STOPPED.as_slice(),
     ] {
         for row in table {
             check(&rt, alloc, row)?;

@@ -1,24 +1,37 @@
 -- What follows from how a command ended.
-use Rattle.std.proofs.Common.{◌≡◌, ℕ, List, Option, None, Some, Result, Ok, Err, IfOk, IfSome, IsOkAnd, IsTrue, sym, refl, subst, inl, inr, ◌⊎◌}
+use Rattle.std.proofs.Common.{◌≡◌, ℕ, List, Option, None, Some, Result, Ok, Err, IfOk, IfSome, IsOkAnd, IsTrue, sym, refl, ap, subst, inl, inr, ◌⊎◌}
 use Rattle.light_base.specs.FileMap.{Files}
 use Rattle.light_base.specs.Stores.{StoreTold}
 use Rattle.light_top.specs.Outputs.{Output}
 use Rattle.machine.specs.Inputs.{InputsValue}
 use Rattle.light_top.specs.Given.{◌>>=◌, numbers_in, matched, inputs_in, given, Gives}
 use Rattle.light_top.specs.Tasks.{Means, Fails, CanSucceed}
-use Rattle.light_top.specs.Outside.{Outside}
-use Rattle.light_top.specs.Statuses.{IsFailure}
+use Rattle.light_base.specs.Sinks.{SinkTold}
+use Rattle.light_top.specs.Outside.{Outside, ◌and◌}
+use Rattle.light_top.specs.Statuses.{IsFailure, FailsBy}
 use Rattle.light_top.specs.Ends.{EndsEarly, EndsUndone, Ends, IsExcused, Declines, CanBeDone}
 use Rattle.light_top.specs.declared.words.Command.{Command}
 use Rattle.light_top.specs.declared.task.Task.{Task}
 use Rattle.light_top.specs.declared.status.Status.{Status}
 use Rattle.light_top.specs.declared.status.Status.TheVariants as status
 
+-- what is so of a task is so of the one that the command is given
+of_given : (files : Option Files) (command : Command) (task : Task) (P : Task → Type 0) → IfSome files (λ fs. given command fs ≡ Ok task) → P task →
+    IfSome files (λ fs. IsOkAnd (given command fs) P)
+of_given None command task P gives is = tt
+of_given (Some fs) command task P gives is = subst (λ r. IsOkAnd r P) (sym gives) is
+
 -- what a task means is meant by the command that it was given for
 pub is_meant : (files : Option Files) (command : Command) (task : Task) (output : Output) → IfSome files (λ fs. given command fs ≡ Ok task) → Means task output →
     IfSome files (λ fs. IsOkAnd (given command fs) (λ t. Means t output))
-is_meant None command task output gives means = tt
-is_meant (Some fs) command task output gives means = subst (λ r. IsOkAnd r (λ t. Means t output)) (sym gives) means
+is_meant files command task output gives means = of_given files command task (λ t. Means t output) gives means
+
+-- a task that could not be done leaves all as it was
+pub ended_undone : (command : Command) (task : Task) (old new : StoreTold) (sink : SinkTold) (s : Status) → Gives old new (given command) task → FailsBy (Fails task) s →
+    Ends command (old and sink) (new and sink) s
+ended_undone command task old new sink status.Memory gives fails = inl (gives.1, refl)
+ended_undone command task old new sink s gives fails =
+    inr (inr (fails.0, of_given old.files command task (λ t. Fails t s) gives.0 fails.1, ap (λ (told : StoreTold). told and sink) gives.1))
 
 -- a task that can be done does not fail
 no_failure : (r : Result Task Status) (s : Status) → IsOkAnd r (λ t. Fails t s) → IsOkAnd r CanSucceed → ⊥

@@ -1,5 +1,5 @@
 -- What the files say of a command: the task that is to be done, or what stands in the way first.
-use Rattle.std.specs.Prelude.{◌≡◌, ℕ, ◌+◌, nat_lt, ◌==◌, IsTrue, List, [], length, replicate, Option, None, Some, Result, Ok, Err, IfSome, if◌then◌else◌}
+use Rattle.std.specs.Prelude.{◌≡◌, ℕ, ◌+◌, nat_lt, nat_le, ◌==◌, IsTrue, List, [], length, replicate, Option, None, Some, Result, Ok, Err, IfSome, if◌then◌else◌}
 use Rattle.std.specs.FinMap.{get}
 use Rattle.light_base.specs.Causes.{Rose}
 use Rattle.light_base.specs.FileMap.{Files}
@@ -7,7 +7,7 @@ use Rattle.light_base.specs.Stores.{StoreTold}
 use Rattle.machine.specs.Programs.{ProgramValue}
 use Rattle.machine.specs.Inputs.{InputsValue}
 use Rattle.light_top.specs.Images.{ImageValue, as_image, as_text, as_inputs}
-use Rattle.replay_model.specs.Logs.{Log}
+use Rattle.replay_model.specs.Logs.{Log, thread_of}
 use Rattle.light_base.specs.declared.tag.Event.{Event}
 use Rattle.light_top.specs.Logs.{as_log, as_old_log, as_order, logged_print, image_print}
 use Rattle.light_top.specs.Prints.{same_print}
@@ -70,6 +70,12 @@ abbrev pub of_program : ImageValue → Log → Result Log Status
 of_program image log =
     if same_print (logged_print log) (image_print image) then Ok log else Err (status.WrongProgram (logged_print log) (image_print image))
 
+-- a log whose thread takes this step; step 0 is before the first one
+abbrev pub with_step : ℕ → ℕ → Log → Result Log Status
+with_step thread step log =
+    if nat_lt thread (length log.threads) then (if nat_le step (thread_of log thread).steps then Ok log else Err (status.NoStep (length log.threads) (thread_of log thread).steps))
+    else Err (status.NoStep (length log.threads) 0)
+
 -- the task of a command
 abbrev pub given : Command → Files → Result Task Status
 given (command.Run image limits inputs) files = do
@@ -107,6 +113,12 @@ given (command.Replay image log schedule budget) files = do
 given (command.Races log) files = do
   l ← log_in files log
   Ok (task.Races l)
+given (command.Until image log thread step budget) files = do
+  i ← image_in files image
+  l ← log_in files log
+  own ← of_program i l
+  there ← with_step thread step own
+  Ok (task.Until i there thread step budget)
 given (command.Arena number) files = Ok (task.Arena number)
 
 -- ---- what is answered of this

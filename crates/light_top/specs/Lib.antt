@@ -7,6 +7,7 @@ pub mod Prints
 pub mod Given
 pub mod Outputs
 pub mod Solving
+pub mod Stopping
 pub mod Arenas
 pub mod Tasks
 pub mod Outside

@@ -12,6 +12,8 @@ use Rattle.log_file.specs.LogFaults.{number_of_kind as number_of_log_kind}
 use Rattle.log_file.specs.declared.sched_fault.SchedKind.TheVariants as sched_kind
 use Rattle.log_file.specs.Schedules.{number_of_kind as number_of_sched_kind}
 use Rattle.schedule_check.specs.Faults.{number_of as number_of_order_kind}
+use Rattle.stopper.specs.declared.stray.Stray.{Stray}
+use Rattle.stopper.specs.Strays.{AreUnlike, straying}
 use Rattle.light_top.specs.declared.status.Status.{Status}
 use Rattle.light_top.specs.declared.status.Status.TheVariants as status
 
@@ -33,6 +35,8 @@ code_of (status.Disrespects fault) = 13
 code_of status.SinkFault = 14
 code_of (status.InputRefused fault) = 15
 code_of (status.WrongInputs program inputs) = 16
+code_of (status.NoStep threads steps) = 18
+code_of (status.Strays stray) = 19
 code_of status.Memory = 70
 
 -- an image was refused: kind K thread T at A
@@ -64,6 +68,10 @@ order_line kind i j = codes "light: order refused" ++ (codes " kind " ++ decimal
 abbrev pub difference_line : ℕ → ℕ → List ℕ
 difference_line thread entry = codes "light: differs" ++ (codes " thread " ++ decimal thread) ++ (codes " entry " ++ decimal entry) ++ 10 ∷ []
 
+-- a play up to a step strayed: thread T
+abbrev pub stray_line : Stray → List ℕ
+stray_line stray = codes "light: strays" ++ (codes " thread " ++ decimal (straying stray)) ++ 10 ∷ []
+
 -- what is told of a status
 abbrev pub status_line : Status → List ℕ
 status_line status.Ok = []
@@ -82,6 +90,8 @@ status_line (status.Disrespects fault) = order_line (number_of_order_kind fault.
 status_line status.SinkFault = codes "light: output fault" ++ 10 ∷ []
 status_line (status.InputRefused fault) = input_line (number_of_input_kind fault.kind)
 status_line (status.WrongInputs program inputs) = codes "light: wrong inputs" ++ 10 ∷ []
+status_line (status.NoStep threads steps) = codes "light: no such step" ++ 10 ∷ []
+status_line (status.Strays stray) = stray_line stray
 status_line status.Memory = codes "light: out of memory" ++ 10 ∷ []
 
 -- the most bytes of a file that is loaded
@@ -97,6 +107,7 @@ IsRefusal (status.InputRefused fault) = fault.kind ≢ input_kind.Memory
 IsRefusal (status.WrongInputs program inputs) = program ≢ inputs
 IsRefusal (status.LogRefused fault) = fault.kind ≢ log_kind.Memory
 IsRefusal (status.WrongProgram logged found) = logged ≢ found
+IsRefusal (status.NoStep threads steps) = Unit {0}
 IsRefusal (status.SchedRefused fault) = fault.kind ≢ sched_kind.Memory
 IsRefusal s = ⊥
 
@@ -105,6 +116,7 @@ abbrev pub IsFailure : Status → Type 0
 IsFailure status.NoSchedule = Unit {0}
 IsFailure status.Spent = Unit {0}
 IsFailure (status.Differs difference) = difference.logged ≢ difference.found
+IsFailure (status.Strays stray) = AreUnlike stray
 IsFailure (status.Disrespects fault) = Unit {0}
 IsFailure s = ⊥
 

@@ -1,5 +1,5 @@
 -- What each task means: what is printed and saved where it is done.
-use Rattle.std.specs.Prelude.{◌≡◌, ℕ, ◌<◌, ◌^◌, List, [], ◌∷◌, ◌++◌, codes, length}
+use Rattle.std.specs.Prelude.{◌≡◌, ℕ, ◌<◌, ◌≤◌, ◌^◌, List, [], ◌∷◌, ◌++◌, codes, length}
 use Rattle.sha2.specs.Sha256.{sha256}
 use Rattle.machine.specs.Programs.{ProgramValue, LimitsValue}
 use Rattle.machine.specs.Inputs.{InputsValue}
@@ -8,6 +8,7 @@ use Rattle.machine.specs.Runs.{rounds_of}
 use Rattle.history.specs.Histories.{IsHistory}
 use Rattle.history.specs.HistoryLogs.{log_of_history}
 use Rattle.recorder.specs.Records.{RecordedValue, recorded_of}
+use Rattle.replay_model.specs.Logs.{thread_of}
 use Rattle.replay_model.specs.Orders.{Respects}
 use Rattle.arena_samples.specs.Arenas.{arena_of}
 use Rattle.arena_samples.specs.Summaries.{summary_of}
@@ -23,15 +24,18 @@ use Rattle.light_top.specs.declared.task.Task.TheVariants as task
 use Rattle.light_top.specs.Logs.{logged_print, image_print}
 use Rattle.light_top.specs.Arenas.{IsArenaEnd, Endless}
 use Rattle.light_top.specs.Solving.{Unsolved, Unreplayed, IsDisrespectful, IsSolved, IsReplayed}
+use Rattle.light_top.specs.Stopping.{IsSnapText, Unstopped}
 use Rattle.light_top.specs.declared.status.Status.{Status}
 
 -- the inputs have a list for each thread of the program that they are for; an order is that of a file; a log is that of the
--- image's program
+-- image's program, and a thread and its step are there
 abbrev pub IsMatched : Task → Type 0
 IsMatched (task.Play image limits inputs) = length inputs ≡ length image.program.threads
 IsMatched (task.Record image log limits crew inputs) = length inputs ≡ length image.program.threads
 IsMatched (task.Check log order) = length order < 2 ^ 32
 IsMatched (task.Replay image log schedule budget) = logged_print log ≡ image_print image
+IsMatched (task.Until image log thread step budget) =
+    (logged_print log ≡ image_print image) × (thread < length log.threads) × (step ≤ (thread_of log thread).steps)
 IsMatched _ = Unit {0}
 
 -- the transcript of the program's threads taking turns in rounds
@@ -91,6 +95,9 @@ Means (task.Solve log schedule budget) output = IsSolved log schedule output
 Means (task.Replay image log schedule budget) output = IsImage image.bytes image.program × IsReplayed image.program log schedule output
 -- how many rival pairs the log has of each kind, and the first of those that are open
 Means (task.Races log) output = output ≡ printed (races_text most_pairs log)
+-- how the thread stands right after its step, in the play up to the step's cut by an order that respects the log
+Means (task.Until image log thread step budget) output =
+    IsImage image.bytes image.program × IsSnapText image.program log thread step output.text × (output ≡ printed output.text)
 -- the summary of the arena, by the values at the end of one whole history of it
 Means (task.Arena number) output = (values : List ℕ) × IsArenaEnd (arena_of number) values × (output ≡ printed (summary_of number values))
 
@@ -100,6 +107,7 @@ abbrev pub Fails : Task → Status → Type 0
 Fails (task.Check log order) s = IsDisrespectful log order s
 Fails (task.Solve log schedule budget) s = Unsolved log budget s
 Fails (task.Replay image log schedule budget) s = Unreplayed image.program log budget s
+Fails (task.Until image log thread step budget) s = Unstopped image.program log thread step budget s
 Fails (task.Arena number) s = Endless (arena_of number) s
 Fails task s = ⊥
 

@@ -161,6 +161,21 @@ races_of (log ∷ []) = do
   Some (command.Races log)
 races_of _ = None
 
+-- the greatest number of a thread
+abbrev pub last_thread : ℕ
+last_thread = 14
+
+-- IMAGE LOG THREAD STEP BUDGET
+abbrev pub until_of : List (List ℕ) → Option Command
+until_of (image ∷ log ∷ thread ∷ step ∷ budget ∷ []) = do
+  image ← name_of image
+  log ← name_of log
+  thread ← number_of last_thread thread
+  step ← number_of most_steps step
+  budget ← any_number_of budget
+  Some (command.Until image log thread step budget)
+until_of _ = None
+
 -- NUMBER
 abbrev pub arena_of_words : List (List ℕ) → Option Command
 arena_of_words (number ∷ []) = do
@@ -182,5 +197,6 @@ command_of (verb ∷ rest) =
     else if bytes_eq verb (codes "solve") then solve_of rest
     else if bytes_eq verb (codes "replay") then replay_of rest
     else if bytes_eq verb (codes "races") then races_of rest
+    else if bytes_eq verb (codes "until") then until_of rest
     else if bytes_eq verb (codes "arena") then arena_of_words rest
     else None

@@ -12,6 +12,7 @@ mod output;
 mod print;
 mod solving;
 mod status;
+mod stopping;
 mod taking;
 mod task;
 mod top;

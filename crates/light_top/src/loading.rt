@@ -1,9 +1,10 @@
 // What the files of a command are read as, before anything is done.
 ghost use Rattle.std.specs.Prelude.{◌≡◌, ◌<◌, ◌^◌, ◌≤◌, length, Ok, IfOk, IfErr};
+ghost use Rattle.replay_model.specs.Logs.{thread_of};
 ghost use Rattle.light_top.specs.Statuses.{most_bytes};
 ghost use Rattle.light_top.specs.Images.{as_text, as_inputs};
 ghost use Rattle.light_top.specs.Logs.{as_log, as_old_log, as_order, logged_print, image_print};
-ghost use Rattle.light_top.specs.Given.{file_in, image_in, text_in, numbers_in, inputs_in, matched, log_in, old_log_in, order_in, of_program, Gives, NotRead, NotGiven};
+ghost use Rattle.light_top.specs.Given.{file_in, image_in, text_in, numbers_in, inputs_in, matched, log_in, old_log_in, order_in, of_program, with_step, Gives, NotRead, NotGiven};
 
 use crate::Status;
 use crate::bytes::Bytes;
@@ -234,5 +235,25 @@ pub fn of_program(image: &Image, log: RunLog) -> Result<RunLog, Status>
         Ok(log)
     } else {
         Err(Status::WrongProgram { logged, found })
+    }
+}
+
+/// A log whose thread takes this step; step 0 is before the first one.
+pub fn with_step(thread: u8, step: u32, log: RunLog) -> Result<RunLog, Status>
+    ensures ok { IfOk result (λ there. with_step thread step log ≡ Ok there) }
+    ensures same { IfOk result (λ there. there ≡ log) }
+    ensures thread { IfOk result (λ there. thread < length there.threads) }
+    ensures step { IfOk result (λ there. step ≤ (thread_of there thread).steps) }
+    ensures err { IfErr result (NotRead (with_step thread step log)) }
+{
+    let threads = log.threads().len() as u8;
+    if thread >= threads {
+        return Err(Status::NoStep { threads, steps: 0 });
+    }
+    let steps = log.threads()[usize::from(thread)].steps();
+    if step <= steps {
+        Ok(log)
+    } else {
+        Err(Status::NoStep { threads, steps })
     }
 }

@@ -1,6 +1,6 @@
 // How a command ends, as a number and as a line of text.
 ghost use Rattle.std.specs.Prelude.{◌≡◌, IfOk, OnOk, ◌∷◌, [], ◌++◌, decimal, codes};
-ghost use Rattle.light_top.specs.Statuses.{code_of, status_line, refusal_line, text_line, input_line, log_line, schedule_line, order_line, difference_line};
+ghost use Rattle.light_top.specs.Statuses.{code_of, status_line, refusal_line, text_line, input_line, log_line, schedule_line, order_line, difference_line, stray_line};
 
 use crate::print::Print;
 use assembler::AsmFault;
@@ -10,6 +10,7 @@ use machine::{ImageFault, InputFault};
 use replayer::Difference;
 use schedule_check::OrderFault;
 use std::alloc::Global;
+use stopper::Stray;
 
 #[derive(Clone, Copy, Debug, PartialEq, Eq)]
 pub enum Status {
@@ -46,6 +47,12 @@ pub enum Status {
     InputRefused(InputFault),
     /// The program has so many threads, and the inputs so many lists, which is another number.
     WrongInputs { program: u8, inputs: u8 },
+    /// The log has no such thread or no such step: it has so many threads, and this one so many steps, which are 0 where
+    /// it isn't there.
+    NoStep { threads: u8, steps: u32 },
+    /// No runs of the program have the log, and this is what was amiss first in a play up to the cut of a step, by an
+    /// order that respects the log.
+    Strays(Stray),
     /// A request for memory was refused.
     Memory,
 }
@@ -72,6 +79,8 @@ impl Status {
             Status::SinkFault => 14,
             Status::InputRefused(_) => 15,
             Status::WrongInputs { .. } => 16,
+            Status::NoStep { .. } => 18,
+            Status::Strays(_) => 19,
             Status::Memory => 70,
         }
     }
@@ -174,6 +183,15 @@ fn put_difference(text: &mut Vec<u8>, thread: u64, entry: u64) -> Result<(), Mem
     Ok(())
 }
 
+fn put_stray(text: &mut Vec<u8>, stray: &Stray) -> Result<(), Memory>
+    ensures { OnOk result (text.new.items ≡ text.old.items ++ stray_line stray.now) }
+{
+    text.extend_from_slice(b"light: strays")?;
+    put_field(text, b" thread ", u64::from(stray.thread()))?;
+    text.push(b'\n')?;
+    Ok(())
+}
+
 /// The line that tells of a status, with its line feed. Of `Ok` nothing is told.
 pub fn status_text(alloc: Global, status: &Status) -> Result<Vec<u8>, Memory>
     ensures { IfOk result (λ text. text.items ≡ status_line status.now) }
@@ -221,6 +239,8 @@ pub fn status_text(alloc: Global, status: &Status) -> Result<Vec<u8>, Memory>
             put_input_refusal(&mut text, u64::from(fault.kind.code()))?
         }
         Status::WrongInputs { .. } => text.extend_from_slice(b"light: wrong inputs\n")?,
+        Status::NoStep { .. } => text.extend_from_slice(b"light: no such step\n")?,
+        Status::Strays(stray) => put_stray(&mut text, stray)?,
         Status::Memory => text.extend_from_slice(b"light: out of memory\n")?,
     }
     Ok(text)

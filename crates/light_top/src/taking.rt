@@ -7,7 +7,7 @@ ghost use Rattle.light_top.specs.declared.words.Command.TheVariants as command;
 use crate::Status;
 use crate::crew::Crew;
 use crate::loading::{
-    load_image, load_inputs, load_log, load_old, load_order, load_text, of_program,
+    load_image, load_inputs, load_log, load_old, load_order, load_text, of_program, with_step,
 };
 use crate::task::Task;
 use crate::words::{Command, Name};
@@ -190,6 +190,33 @@ fn take_replay<'a, S: Store>(
     })
 }
 
+// To show a thread right after a step.
+fn take_until<'a, S: Store>(
+    alloc: Global,
+    store: &mut S,
+    image: Name<'a>,
+    log: Name<'a>,
+    thread: u8,
+    step: u32,
+    budget: u32,
+) -> Result<Task<'a>, Status>
+    ensures ok { IfOk result (Gives (S.told store.old) (S.told store.new) (given (command.Until image.entry log.entry thread step budget))) }
+    ensures err { IfErr result (NotGiven (S.told store.old) (S.told store.new) (given (command.Until image.entry log.entry thread step budget))) }
+    ensures matched { IfOk result IsMatched }
+{
+    let image = load_image(alloc, store, &image)?;
+    let log = load_log(alloc, store, &log)?;
+    let log = of_program(&image, log)?;
+    let log = with_step(thread, step, log)?;
+    Ok(Task::Until {
+        image,
+        log,
+        thread,
+        step,
+        budget,
+    })
+}
+
 /// Loads what a command names, and reads it: the task that is to be done. The files stay as they are.
 pub fn take_up<'a, S: Store>(
     alloc: Global,
@@ -230,6 +257,13 @@ pub fn take_up<'a, S: Store>(
             schedule,
             budget,
         } => take_replay(alloc, store, image, log, schedule, budget),
+        Command::Until {
+            image,
+            log,
+            thread,
+            step,
+            budget,
+        } => take_until(alloc, store, image, log, thread, step, budget),
         Command::Arena { number } => Ok(Task::Arena { number }),
     }
 }

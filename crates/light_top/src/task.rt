@@ -15,6 +15,7 @@ use crate::image::Image;
 use crate::order::Order;
 use crate::output::{Output, Saved};
 use crate::solving::{count_text, find_order, replay_text, with_order};
+use crate::stopping::stop_log;
 use crate::words::Name;
 use constraints::Problem;
 use dep_log::RunLog;
@@ -89,6 +90,14 @@ pub enum Task<'a> {
     /// To print which pairs of writes a log leaves open.
     Races {
         log: RunLog,
+    },
+    /// To show how a thread stands right after a step.
+    Until {
+        image: Image,
+        log: RunLog,
+        thread: u8,
+        step: u32,
+        budget: u32,
     },
     /// To record an arena and to replay it.
     Arena {
@@ -307,6 +316,16 @@ pub fn perform<'a, R: Threads + Sync, G: Gate>(
         } => replay_log(alloc, &image, &log, schedule, budget),
         Task::Races { log } => {
             let text = list_races(alloc, &log)?;
+            Ok(Output { text, saved: None })
+        }
+        Task::Until {
+            image,
+            log,
+            thread,
+            step,
+            budget,
+        } => {
+            let text = stop_log(alloc, image.program(), &log, thread, step, budget)?;
             Ok(Output { text, saved: None })
         }
         Task::Arena { number } => {

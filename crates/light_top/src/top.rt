@@ -19,6 +19,7 @@ use std::alloc::Global;
 use std::thread::Threads;
 
 // Takes a command's task up, does it, and delivers what it gives.
+#[tactic(auto, using(crate::proofs::Ending::ended_undone))]
 fn carry_out<R: Threads + Sync, S: Store, K: Sink, G: Gate>(
     rt: &R,
     alloc: Global,

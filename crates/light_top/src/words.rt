@@ -1,6 +1,6 @@
 // The words of the command line.
 ghost use Rattle.std.specs.Prelude.{◌≡◌, ◌<◌, ◌^◌};
-ghost use Rattle.light_top.specs.Words.{is_plain, number_of, any_number_of, name_of, limits_of, inputs_of, crew_of, form_of, texts, run_of, record_of, asm_of, list_of, show_of, upgrade_of, check_of, solve_of, replay_of, races_of, arena_of_words, command_of};
+ghost use Rattle.light_top.specs.Words.{is_plain, number_of, any_number_of, name_of, limits_of, inputs_of, crew_of, form_of, texts, run_of, record_of, asm_of, list_of, show_of, upgrade_of, check_of, solve_of, replay_of, races_of, until_of, arena_of_words, command_of};
 
 use crate::crew::Crew;
 use machine::Limits;
@@ -14,6 +14,9 @@ const MOST_INSTR: u32 = 1_073_741_824;
 
 /// The most log entries of a thread that limits may allow.
 const MOST_ENTRIES: u32 = 16_384;
+
+/// The greatest number of a thread.
+const LAST_THREAD: u32 = 14;
 
 /// The most workers.
 const MOST_WORKERS: u32 = 15;
@@ -106,6 +109,15 @@ pub enum Command<'a> {
     /// Prints which pairs of writes a log leaves open.
     Races {
         log: Name<'a>,
+    },
+    /// Prints how a thread stands right after a memory step, by a log, playing only what that step needs. Step 0 is
+    /// before the first one.
+    Until {
+        image: Name<'a>,
+        log: Name<'a>,
+        thread: u8,
+        step: u32,
+        budget: u32,
     },
     /// Records an arena program, and replays it.
     Arena {
@@ -316,6 +328,21 @@ fn races<'a>(words: &'a [String]) -> Option<Command<'a>>
     }
 }
 
+fn until<'a>(words: &'a [String]) -> Option<Command<'a>>
+    ensures { result ≡ until_of (texts words.now) }
+{
+    match words {
+        [image, log, thread, step, budget] => Some(Command::Until {
+            image: Name::of(image.as_str())?,
+            log: Name::of(log.as_str())?,
+            thread: number(thread.as_str(), LAST_THREAD)? as u8,
+            step: number(step.as_str(), MOST_STEPS)?,
+            budget: any_number(budget.as_str())?,
+        }),
+        _ => None,
+    }
+}
+
 fn arena<'a>(words: &'a [String]) -> Option<Command<'a>>
     ensures { result ≡ arena_of_words (texts words.now) }
 {
@@ -343,6 +370,7 @@ pub fn read_command<'a>(words: &'a [String]) -> Option<Command<'a>>
             "solve" => solve(rest),
             "replay" => replay(rest),
             "races" => races(rest),
+            "until" => until(rest),
             "arena" => arena(rest),
             _ => None,
         },

@@ -1,6 +1,6 @@
 -- What the threads at the end of a cut play tell of this play.
 use Rattle.std.proofs.Common.{◌≡◌, ℕ, zero, suc, ◌<◌, ◌≤◌, List, [], ◌∷◌, length, take, replicate, refl, sym, ◌∙◌, ap, subst, arith, inl, inr, ◌⊎◌}
-use Rattle.std.specs.Prelude.{Some, None, slice_get, slice_index_or}
+use Rattle.std.specs.Prelude.{Option, Some, None, slice_get, slice_index_or}
 use Rattle.std.specs.List.{AllZip}
 use Rattle.replay_model.specs.declared.Entry.{Entry}
 use Rattle.replay_model.specs.Steps.{Event, Step}
@@ -25,9 +25,9 @@ use Rattle.stopper.specs.declared.stray.Stray.{Stray}
 use Rattle.stopper.specs.declared.stray.Stray.TheVariants as stray
 use Rattle.stopper.specs.Snaps.{SnapValue}
 use Rattle.stopper.specs.Stops.{stopped_after}
-use Rattle.stopper.specs.Strays.{AreSeenAt, AllFrom, IsThreadOnTrack, IsStrayOf, logged_in, steps_in, IsOnTrackAt, IsFirstStray, IsSeatOnTrack, IsStrayOfSeat, SeatsCompared}
+use Rattle.stopper.specs.Strays.{AreSeenAt, AreUnlike, AllFrom, IsThreadOnTrack, IsStrayOf, logged_in, steps_in, IsOnTrackAt, IsFirstStray, IsSeatOnTrack, IsStrayOfSeat, SeatsCompared}
 use Rattle.stopper.specs.Plays.{StandsBy, HaveCome}
-use Rattle.stopper.specs.Stopping.{cut_by, stopped_in, shown_of, IsStopped, IsStopAt, IsOfRuns, IsAsItRan, HavePlayed, IsShownOf, IsAnswer}
+use Rattle.stopper.specs.Stopping.{TellsUnlike, cut_by, stopped_in, shown_of, IsStopped, IsStopAt, IsOfRuns, IsAsItRan, HavePlayed, IsShownOf, IsAnswer}
 use Rattle.stopper.proofs.Stops.{stops_ran}
 
 -- where two lists agree they agree at each place
@@ -47,6 +47,17 @@ not-both t number logged seen taken (stray.Entry thread place there here) (a, h,
 no-steps : (steps : List Step) → length steps ≡ 0 → steps ≡ []
 no-steps [] h = refl
 no-steps (s ∷ steps) h = absurd (omega (arith, h))
+
+-- the same is logged and seen where both are the same
+seen-itself : (number : ℕ) (o : Option Entry) → AreSeenAt number o o
+seen-itself number None = tt
+seen-itself number (Some entry) = record { word = refl; source = refl; first = refl; last = inl refl }
+
+-- what a stray tells are two values that differ
+unlike : (t number : ℕ) (logged seen : List Entry) (taken : ℕ) (s : Stray) → IsStrayOf t number logged seen taken s → AreUnlike s
+unlike t number logged seen taken (stray.Ended thread wanted got) (a, b, g, same, less) = omega (arith, b, g, less)
+unlike t number logged seen taken (stray.Entry thread place there here) (a, h, g, before, other) =
+    λ same. other (subst (λ (o : Option Entry). AreSeenAt number there o) same (seen-itself number there))
 
 module _ (p : ProgramValue) (log : Log) (cut : List ℕ) (world : World) (words : ReplayWords) (seats : List RunningThread) (come : HaveCome p log cut world words seats)
     (counted : length p.threads ≡ length log.threads) where
@@ -141,3 +152,8 @@ as-it-ran p log order thread step cut (At snap) respects l inside is (on, shown)
 as-it-ran p log order thread step cut (Strays s) respects l inside is (off, first) runs fits =
     off (cut_on_track (threads_of p log.limits (taken_in log)) (tallies_of p log.limits (taken_in log)) p.words log runs fits order thread step cut
     (stays_within p log.limits (taken_in log)) (ends_within p log.limits (taken_in log)) respects inside is)
+
+-- a stray that is answered tells two values that differ
+pub tells-unlike : (p : ProgramValue) (log : Log) (order : List Event) (thread : ℕ) (cut : List ℕ) (stopped : Stopped) → IsStopped p log order thread cut stopped → TellsUnlike stopped
+tells-unlike p log order thread cut (At snap) is = tt
+tells-unlike p log order thread cut (Strays s) (off, first) = unlike first.thread _ _ _ _ s first.here

@@ -4,3 +4,4 @@ pub mod Strays
 pub mod Plays
 pub mod Snaps
 pub mod Stopping
+pub mod Texts

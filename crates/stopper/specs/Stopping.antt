@@ -17,7 +17,7 @@ use Rattle.stopper.specs.declared.stop.Stopped.{Stopped}
 use Rattle.stopper.specs.declared.stop.Stopped.TheVariants.{At, Strays}
 use Rattle.stopper.specs.Snaps.{SnapValue}
 use Rattle.stopper.specs.Stops.{stopped_after}
-use Rattle.stopper.specs.Strays.{IsFirstStray, SeatsCompared}
+use Rattle.stopper.specs.Strays.{IsFirstStray, AreUnlike, SeatsCompared}
 use Rattle.stopper.specs.Plays.{HaveCome}
 
 -- the end of the cut play by this order
@@ -40,6 +40,11 @@ IsStopped p log order thread cut (Strays stray) = (IsOnTrack log cut (cut_by p l
 -- so it is with the cut of the step
 abbrev pub IsStopAt : ProgramValue → Log → List Event → ℕ → ℕ → Stopped → Type 0
 IsStopAt p log order thread step stopped = (cut : List ℕ) × IsCut log thread step cut × IsStopped p log order thread cut stopped
+
+-- a stray tells two values that differ
+abbrev pub TellsUnlike : Stopped → Type 0
+TellsUnlike (At snap) = Prim.Unit {0}
+TellsUnlike (Strays stray) = AreUnlike stray
 
 -- the thread of these runs right after its step is shown
 abbrev pub IsOfRuns : ProgramValue → Log → ℕ → ℕ → List (List Step) → Stopped → Type 0

@@ -1,5 +1,5 @@
 -- Where a play up to a cut first has something else than its log.
-use Rattle.std.specs.Prelude.{◌≡◌, ℕ, ◌<◌, ◌≤◌, Option, Some, None, List, length, slice_get, slice_index_or, MatchOption}
+use Rattle.std.specs.Prelude.{◌≡◌, ◌≢◌, ℕ, ◌<◌, ◌≤◌, Option, Some, None, List, length, slice_get, slice_index_or, MatchOption}
 use Rattle.std.specs.List.{AllZip}
 use Rattle.replay_model.specs.declared.Entry.{Entry}
 use Rattle.replay_model.specs.Histories.{World, steps_of}
@@ -39,6 +39,16 @@ IsStrayOf t number logged seen taken (stray.Ended thread wanted got) =
 IsStrayOf t number logged seen taken (stray.Entry thread place there here) =
     (thread ≡ t) × (there ≡ slice_get logged place) × (here ≡ slice_get seen place) ×
     ((k : ℕ) → k < place → AreSeenAt number (slice_get logged k) (slice_get seen k)) × (AreSeenAt number there here → ⊥)
+
+-- the thread that strays
+abbrev pub straying : Stray → ℕ
+straying (stray.Ended thread wanted taken) = thread
+straying (stray.Entry thread entry logged found) = thread
+
+-- what it tells are two values that differ
+abbrev pub AreUnlike : Stray → Type 0
+AreUnlike (stray.Ended thread wanted taken) = taken < wanted
+AreUnlike (stray.Entry thread entry logged found) = logged ≢ found
 
 -- ---- of a world
 

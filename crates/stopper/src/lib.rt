@@ -6,7 +6,9 @@ pub mod laws;
 mod play;
 mod stop;
 mod stray;
+mod text;
 
 pub use cut::cut_of;
 pub use stop::{Snap, Stopped, stop_at};
 pub use stray::Stray;
+pub use text::snap_text;

@@ -2,7 +2,7 @@
 ghost use Rattle.std.specs.Prelude.{◌≡◌, ◌<◌, ◌≤◌, IfOk, length};
 ghost use Rattle.replay_model.specs.Logs.{thread_of};
 ghost use Rattle.replay_model.specs.Orders.{Respects};
-ghost use Rattle.stopper.specs.Stopping.{IsStopAt, IsAnswer, IsAsItRan, PlaysOut, IsShownOf};
+ghost use Rattle.stopper.specs.Stopping.{IsStopAt, TellsUnlike, IsAnswer, IsAsItRan, PlaysOut, IsShownOf};
 
 use crate::cut::cut_of;
 use crate::play::{Plan, go_to_numbers, take_turns};
@@ -138,6 +138,7 @@ pub fn stop_at(
     requires step { step ≤ (thread_of log.now thread).steps }
     requires order { Respects log.now order.now }
     ensures stopped { IfOk result (IsStopAt program.now log.now order.now thread step) }
+    ensures unlike { IfOk result TellsUnlike }
     // Where runs fit the log it does not stray, and the thread stands as it did right after this step of its run.
     ensures ran { IfOk result (IsAsItRan program.now log.now thread step) }
 {

@@ -1,7 +1,7 @@
 // Where a play up to a cut strays first.
 ghost use Rattle.std.specs.Prelude.{◌≡◌, ◌<◌, ◌≤◌, ◌^◌, ◌↔◌, IsTrue, IfOk, MatchOption, length, slice_get};
 ghost use Rattle.cut_laws.specs.Cuts.{begun, IsSeenOf};
-ghost use Rattle.stopper.specs.Strays.{AreSeenAt, AllFrom, IsFirstOther};
+ghost use Rattle.stopper.specs.Strays.{straying, AreSeenAt, AllFrom, IsFirstOther};
 ghost use Rattle.stopper.specs.Strays.{EntriesCompared, SeatCompared, SeatsCompared};
 
 use dep_log::{Entry, RunLog};
@@ -28,6 +28,18 @@ pub enum Stray {
         logged: Option<Entry>,
         found: Option<Entry>,
     },
+}
+
+impl Stray {
+    /// The thread that strays.
+    pub fn thread(&self) -> u8
+        ensures { result ≡ straying self.now }
+    {
+        match self {
+            Stray::Ended { thread, .. } => *thread,
+            Stray::Entry { thread, .. } => *thread,
+        }
+    }
 }
 
 // Whether what was seen of an entry by this step is what is logged.

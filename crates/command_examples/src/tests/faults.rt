@@ -21,11 +21,15 @@ const SHOWN: Content = Content::Text(
     "program b4ccf6448bc45676a64744e28389f90c21d30e4190e9c413417dc0164e6fc1e5/words 1/limits 100 100 100/thread 0 halted steps 2 instr 4 entries 1 inputs 0/entry 0 source 0:1 first 2 last 2/word 0 last 0:1/",
 );
 
+const STANDS: Content = Content::Text(
+    "thread 0 step 1 instr 2/r0 0/r1 7/r2 0/r3 0/r4 0/r5 0/r6 0/r7 0/r8 0/r9 0/r10 0/r11 0/r12 0/r13 0/r14 0/r15 0/run 0 1/",
+);
+
 // The only order of the two steps.
 const ORDER: Content = Content::Hex("4c534331 00000002 10000001 10000002");
 
 // Commands that are done, each with the number of its calls.
-pub static COMMANDS: [(Row, u64); 11] = [
+pub static COMMANDS: [(Row, u64); 12] = [
     (
         Row {
             words: "run i 100 100 100",
@@ -115,6 +119,15 @@ pub static COMMANDS: [(Row, u64); 11] = [
             files: &[("l", OWN_WRITE_READ_LOG), ("s", SOURCE)],
             text: Content::Text("events 2/"),
             after: &[("s", ORDER)],
+            ..DONE
+        },
+        2,
+    ),
+    (
+        Row {
+            words: "until i l 0 1 0",
+            files: &[("i", OWN_WRITE_READ), ("l", OWN_WRITE_READ_LOG)],
+            text: STANDS,
             ..DONE
         },
         2,

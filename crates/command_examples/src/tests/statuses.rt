@@ -5,6 +5,7 @@ use log_file::{LogFault, LogKind, SchedFault, SchedKind};
 use machine::{End, ImageFault, ImageKind, InputFault, InputKind};
 use replayer::{Difference, Kept};
 use schedule_check::{OrderFault, OrderKind};
+use stopper::Stray;
 
 const NO_PRINT: Print = Print {
     digest: [0; 32],
@@ -12,7 +13,7 @@ const NO_PRINT: Print = Print {
     threads: 1,
 };
 
-pub fn statuses() -> [(Status, u8, &'static str); 17] {
+pub fn statuses() -> [(Status, u8, &'static str); 19] {
     [
         (Status::Ok, 0, ""),
         (Status::Usage, 2, "light: usage/"),
@@ -109,6 +110,23 @@ pub fn statuses() -> [(Status, u8, &'static str); 17] {
             },
             16,
             "light: wrong inputs/",
+        ),
+        (
+            Status::NoStep {
+                threads: 2,
+                steps: 4,
+            },
+            18,
+            "light: no such step/",
+        ),
+        (
+            Status::Strays(Stray::Ended {
+                thread: 14,
+                wanted: 3,
+                taken: 2,
+            }),
+            19,
+            "light: strays thread 14/",
         ),
         (Status::Memory, 70, "light: out of memory/"),
     ]

@@ -5,6 +5,7 @@ use light_top::{Print, Status, status_text};
 use replayer::{Difference, Kept};
 use std::alloc::{AllocError, Global};
 use std::test::Fail;
+use stopper::Stray;
 
 // The line of a status, without `light: ` and the end of the line. Of a command that was done there is none.
 fn line_of(alloc: Global, status: &Status) -> Result<String, Fail> {
@@ -54,6 +55,31 @@ fn difference_of(alloc: Global, difference: &Difference) -> Result<String, Alloc
     format!(in alloc; "{logged}, not {found}")
 }
 
+// What stands at a place among the entries of a thread.
+fn place_of(alloc: Global, entry: &Option<Entry>) -> Result<String, AllocError> {
+    match entry {
+        Some(entry) => entry_of(alloc, entry),
+        None => format!(in alloc; "none"),
+    }
+}
+
+// How many steps were taken of how many, or what is logged and what was found.
+fn stray_of(alloc: Global, stray: &Stray) -> Result<String, AllocError> {
+    match stray {
+        Stray::Ended { wanted, taken, .. } => format!(in alloc; "{taken} of {wanted}"),
+        Stray::Entry {
+            entry,
+            logged,
+            found,
+            ..
+        } => {
+            let logged = place_of(alloc, logged)?;
+            let found = place_of(alloc, found)?;
+            format!(in alloc; "entry {entry} {logged}, not {found}")
+        }
+    }
+}
+
 // A digest in hexadecimal digits, a number of words and one of threads.
 fn print_of(alloc: Global, print: &Print) -> Result<String, AllocError> {
     let mut text = String::new(alloc);
@@ -65,13 +91,15 @@ fn print_of(alloc: Global, print: &Print) -> Result<String, AllocError> {
 }
 
 // How a command ended: nothing where it was done, `no schedule`, `log refused kind 1 at 89`, `too long: 8388609`,
-// `wrong inputs: 1 2`, `wrong program: DIGEST 1 1, not DIGEST 1 1`, or `differs thread 0 entry 1: tail 3 4 Halted 0, not tail 2 4
+// `no such step: 2 4`, `strays thread 0: 2 of 3`, `strays thread 0: entry 0 0 0:1 2 3, not 0 0:1 2 2`, `wrong inputs: 1 2`, `wrong program: DIGEST 1 1, not DIGEST 1 1`, or `differs thread 0 entry 1: tail 3 4 Halted 0, not tail 2 4
 // Halted 0`.
 pub fn told(alloc: Global, status: &Status) -> Result<String, Fail> {
     let line = line_of(alloc, status)?;
     let more = match status {
         Status::TooLong { taken } => format!(in alloc; "{taken}")?,
         Status::WrongInputs { program, inputs } => format!(in alloc; "{program} {inputs}")?,
+        Status::NoStep { threads, steps } => format!(in alloc; "{threads} {steps}")?,
+        Status::Strays(stray) => stray_of(alloc, stray)?,
         Status::Differs(difference) => difference_of(alloc, difference)?,
         Status::WrongProgram { logged, found } => {
             let logged = print_of(alloc, logged)?;

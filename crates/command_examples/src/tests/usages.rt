@@ -14,7 +14,7 @@ pub const NO_COMMAND: Row = Row {
 };
 
 // With one space between two words.
-pub static USAGES: [&str; 67] = [
+pub static USAGES: [&str; 74] = [
     "",
     "run",
     "run i 07 1 1",
@@ -81,5 +81,12 @@ pub static USAGES: [&str; 67] = [
     "arena 07",
     "arena 4294967296",
     "arena 7 7",
+    "until i l 0 1",
+    "until i l 15 0 0",
+    "until i l 0 268435456 0",
+    "until i l 0 1 4294967296",
+    "until i  0 1 0",
+    "until i l 00 1 0",
+    "until i l 0 1 0 0",
     "audit i l 1",
 ];
