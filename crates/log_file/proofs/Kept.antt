@@ -1,5 +1,5 @@
 -- What is known of the entries of a thread stays known when one more is added.
-use Rattle.std.proofs.Common.{◌≡◌, ◌≢◌, ℕ, ◌<◌, Bool, true, false, cond, eqb, leb, max, ◌&&◌, ◌||◌, List, [], ◌∷◌, ◌++◌, length, get_or, set, refl, sym, ◌∙◌, ap, subst, arith, inl, inr, ◌⊎◌}
+use Rattle.std.proofs.Common.{◌≡◌, ◌≢◌, ℕ, ◌<◌, Bool, true, false, eqb, leb, max, ◌&&◌, ◌||◌, List, [], ◌∷◌, ◌++◌, length, get_or, set, refl, sym, ◌∙◌, ap, subst, arith, inl, inr, ◌⊎◌}
 use Rattle.std.specs.List.{list_any}
 use Rattle.std.proofs.lemmas.Bool.{cases_eq, eq-eqb, eqb-true, ne_eqb, and_parts, and_from}
 use Rattle.std.proofs.lemmas.Bool.Decides.{nat_tests}
@@ -28,38 +28,33 @@ pair-same w v s t a b e =
     (omega (arith, a.fits, b.fits, e), sym a.back ∙ ap writer_of bits ∙ b.back)
 
 -- so the test on numbers is that on pairs
-pub pair-test : (w : ℕ) (s : Tag) (e : Entry) → IsNumbered s → IsNumbered e.source → eqb (pair_of e.word e.source) (pair_of w s) ≡ is_entry_for w s e
+pair-test : (w : ℕ) (s : Tag) (e : Entry) → IsNumbered s → IsNumbered e.source → eqb (pair_of w s) (pair_of e.word e.source) ≡ is_entry_for w s e
 pair-test w s e a b = same_answers _ _ there back
   where
-    there : eqb (pair_of e.word e.source) (pair_of w s) ≡ true → is_entry_for w s e ≡ true
+    there : eqb (pair_of w s) (pair_of e.word e.source) ≡ true → is_entry_for w s e ≡ true
     there h =
-        let same = pair-same e.word w e.source s b a (eqb-true _ _ h) in
-        and_from (eqb w e.word) (same_tag s e.source) (eq-eqb w e.word (sym same.0)) (subst (λ (t : Tag). same_tag s t ≡ true) (sym same.1) (same_tag-same s))
+        let same = pair-same w e.word s e.source a b (eqb-true _ _ h) in
+        and_from (eqb w e.word) (same_tag s e.source) (eq-eqb w e.word same.0) (subst (λ (t : Tag). same_tag s t ≡ true) same.1 (same_tag-same s))
 
-    back : is_entry_for w s e ≡ true → eqb (pair_of e.word e.source) (pair_of w s) ≡ true
+    back : is_entry_for w s e ≡ true → eqb (pair_of w s) (pair_of e.word e.source) ≡ true
     back h =
         let both = and_parts (eqb w e.word) (same_tag s e.source) h in
-        eq-eqb _ _ (ap (λ (n : ℕ). pair_of n e.source) (sym (eqb-true w e.word both.0)) ∙ ap (pair_of w) (sym (same_tag-true s e.source both.1)))
+        eq-eqb _ _ (ap (λ (n : ℕ). pair_of n s) (eqb-true w e.word both.0) ∙ ap (pair_of e.word) (same_tag-true s e.source both.1))
 
-one_more : (p : Entry → Bool) (entries : List Entry) (e : Entry) → list_any p (entries ++ e ∷ []) ≡ (list_any p entries || p e)
-one_more p entries e = list_any-append p entries (e ∷ []) ∙ tidy (p e)
+pub one_more : {A : Type 0} (p : A → Bool) (xs : List A) (x : A) → list_any p (xs ++ x ∷ []) ≡ (list_any p xs || p x)
+one_more p xs x = list_any-append p xs (x ∷ []) ∙ tidy (p x)
   where
-    tidy : (b : Bool) → (list_any p entries || (b || false)) ≡ (list_any p entries || b)
+    tidy : (b : Bool) → (list_any p xs || (b || false)) ≡ (list_any p xs || b)
     tidy true = refl
     tidy false = refl
 
-either : (a b : Bool) → cond b true a ≡ (a || b)
-either true true = refl
-either true false = refl
-either false true = refl
-either false false = refl
-
--- a set that has one more pair has those of one more entry
-pub pairs_more : (w : ℕ) (s : Tag) (entries : List Entry) (e : Entry) (was now : Bool) → IsNumbered s → IsNumbered e.source → was ≡ list_any (is_entry_for w s) entries →
-    now ≡ cond (eqb (pair_of e.word e.source) (pair_of w s)) true was → now ≡ list_any (is_entry_for w s) (entries ++ e ∷ [])
-pairs_more w s entries e was now a b knew knows =
-    knows ∙ ap (λ (t : Bool). cond t true was) (pair-test w s e a b) ∙ ap (cond (is_entry_for w s e) true) knew ∙ either (list_any (is_entry_for w s) entries) (is_entry_for w s e) ∙
-    sym (one_more (is_entry_for w s) entries e)
+-- numbers with one more pair have those of one more entry
+pub pairs_more : (w : ℕ) (s : Tag) (entries : List Entry) (e : Entry) (numbers : List ℕ) → IsNumbered s → IsNumbered e.source →
+    list_any (eqb (pair_of w s)) numbers ≡ list_any (is_entry_for w s) entries →
+    list_any (eqb (pair_of w s)) (numbers ++ pair_of e.word e.source ∷ []) ≡ list_any (is_entry_for w s) (entries ++ e ∷ [])
+pairs_more w s entries e numbers a b knew =
+    one_more (eqb (pair_of w s)) numbers (pair_of e.word e.source) ∙ ap (λ (t : Bool). t || eqb (pair_of w s) (pair_of e.word e.source)) knew ∙
+    ap (λ (t : Bool). list_any (is_entry_for w s) entries || t) (pair-test w s e a b) ∙ sym (one_more (is_entry_for w s) entries e)
 
 or_not : (a : Bool) → a ≡ (a || false)
 or_not true = refl

@@ -1,5 +1,6 @@
 pub mod LogFaults
 pub mod LogReading
+pub mod NumberSets
 pub mod Rows
 pub mod Schedules
 pub mod Seen

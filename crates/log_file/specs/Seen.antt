@@ -1,7 +1,6 @@
 -- What is known of the entries of a thread while they are read.
 use Rattle.std.specs.Prelude.{◌≡◌, ℕ, ◌+◌, ◌*◌, ◌^◌, ◌<◌, nat_eq, nat_le, length, slice_index, All}
 use Rattle.std.specs.List.{list_any}
-use Rattle.std.specs.HashSet.{contains}
 use Rattle.light_base.specs.declared.tag.Tag.{Tag}
 use Rattle.light_base.specs.Tags.{bits_of, writer_of}
 use Rattle.replay_model.specs.declared.Entry.{Entry}
@@ -22,6 +21,6 @@ pub record IsNumbered (tag : Tag) : Type 0 where
 pub record IsKept (seen : Seen) : Type 0 where
   pub numbered : All (λ (entry : Entry). IsNumbered entry.source) seen.entries.items
   pub pairs : (word : ℕ) (source : Tag) → IsNumbered source →
-      contains nat_eq seen.pairs (pair_of word source) ≡ list_any (is_entry_for word source) seen.entries.items
+      list_any (nat_eq (pair_of word source)) seen.pairs ≡ list_any (is_entry_for word source) seen.entries.items
   pub ends : (word step : ℕ) → 0 < step → word < length seen.ends.items →
       nat_le step (slice_index seen.ends.items word) ≡ list_any (ends_late word step) seen.entries.items

@@ -5,6 +5,7 @@ mod digest;
 mod heads;
 mod log_fault;
 mod log_reading;
+mod number_set;
 mod numbers;
 mod places;
 mod sched_fault;

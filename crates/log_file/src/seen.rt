@@ -5,10 +5,10 @@ ghost use Rattle.replay_model.specs.MoreReads.{is_entry_for};
 ghost use Rattle.log_file.specs.LogReading.{newest_first, ends_late};
 ghost use Rattle.log_file.specs.Seen.{IsNumbered, IsKept, pair_of};
 
+use crate::number_set::NumberSet;
 use light_base::Tag;
 use replay_model::Entry;
 use std::alloc::{AllocError, Global};
-use std::collections::HashSet;
 
 /// What a half of a number of 64 bits is worth in it.
 const HALF: u64 = 1 << 32;
@@ -17,8 +17,9 @@ const HALF: u64 = 1 << 32;
 #[derive(Drop)]
 pub(crate) struct Seen {
     pub entries: Vec<Entry>,
-    // The word and the source of each entry, as one number.
-    pairs: HashSet<u64>,
+    // The word and the source of each entry, as one number. Those of a word and a writer stand in one row, and rise in the log
+    // of a run.
+    pairs: NumberSet,
     // The greatest last of the entries of each word.
     ends: Vec<u32>,
 }
@@ -27,6 +28,7 @@ pub(crate) struct Seen {
 #[tactic(auto, unfolding(crate::specs::Seen::pair_of))]
 fn pair_of(word: u16, source: Tag) -> u64
     ensures value { result ≡ pair_of word source }
+    ensures small { result < 2 ^ 48 }
     ensures numbered { IsNumbered source }
 {
     u64::from(word) * HALF + u64::from(source.bits())
@@ -40,7 +42,7 @@ impl Seen {
         ensures words { IfOk result (λ seen. length seen.ends.items ≡ words) }
     {
         let entries = Vec::with_capacity(alloc, room)?;
-        let pairs = HashSet::with_capacity(alloc, room)?;
+        let pairs = NumberSet::new(alloc, words.saturating_mul(16), room)?;
         let ends = vec![in alloc; 0; words]?;
         Ok(Seen {
             entries,
@@ -71,7 +73,7 @@ impl Seen {
         requires { IsKept self.now }
         ensures { result ≡ list_any (is_entry_for word source) self.now.entries.items }
     {
-        self.pairs.contains(&pair_of(word, source))
+        self.pairs.contains(pair_of(word, source))
     }
 
     // Whether an entry of this word ends no earlier than at this step.
@@ -92,7 +94,7 @@ impl Seen {
         ensures entries { OnOk result (self.new.entries.items ≡ self.old.entries.items ++ entry ∷ []) }
         ensures words { OnOk result (length self.new.ends.items ≡ length self.old.ends.items) }
     {
-        self.pairs.insert(pair_of(entry.word, entry.source))?;
+        self.pairs.push(pair_of(entry.word, entry.source))?;
         let word = usize::from(entry.word);
         self.ends[word] = self.ends[word].max(entry.last);
         self.entries.push(entry)?;

@@ -40,17 +40,22 @@ struct Overwritten {
 pub struct Clocks {
     clocks: Vec<Clock>,
     overwritten: Vec<Overwritten>,
-    is_kept: bool,
+    // The era in which each row was last put among the overwritten ones, and the present era. One ends with each `keep` and
+    // `restore`, and a row is put there once in it. Before the first `keep`, in era 0, none is.
+    kept_in: Vec<u32>,
+    era: u32,
 }
 
 impl Clocks {
     /// These clocks. What is overwritten is not kept at first.
-    pub fn of(alloc: Global, clocks: Vec<Clock>) -> Clocks {
-        Clocks {
+    pub fn of(alloc: Global, clocks: Vec<Clock>) -> Result<Clocks, AllocError> {
+        let kept_in = vec![in alloc; 0; clocks.len()]?;
+        Ok(Clocks {
             clocks,
             overwritten: Vec::new(alloc),
-            is_kept: false,
-        }
+            kept_in,
+            era: 0,
+        })
     }
 
     /// A clock; one past the last has `NEVER` for each chain.
@@ -69,12 +74,25 @@ impl Clocks {
         }
     }
 
+    // Whether a row was not put among the overwritten ones in this era. From now on it was.
+    fn is_new(&mut self, row: u32) -> bool {
+        match self.kept_in.get_mut(row as usize) {
+            Some(kept_in) => {
+                let is_new = *kept_in != self.era;
+                *kept_in = self.era;
+                is_new
+            }
+            None => false,
+        }
+    }
+
     /// Overwrites a clock.
     pub fn set(&mut self, row: u32, to: &Clock) -> Result<(), AllocError> {
+        if self.is_new(row) {
+            let clock = self.get(row);
+            self.overwritten.push(Overwritten { row, clock })?;
+        }
         if let Some(clock) = self.clocks.get_mut(row as usize) {
-            if self.is_kept {
-                self.overwritten.push(Overwritten { row, clock: *clock })?;
-            }
             *clock = *to;
         }
         Ok(())
@@ -92,7 +110,7 @@ impl Clocks {
 
     /// From now on what is overwritten can be brought back: nothing was since.
     pub fn keep(&mut self) {
-        self.is_kept = true;
+        self.era = self.era.wrapping_add(1);
         self.overwritten.clear();
     }
 
@@ -104,5 +122,6 @@ impl Clocks {
                 *clock = before;
             }
         }
+        self.era = self.era.wrapping_add(1);
     }
 }

@@ -35,8 +35,8 @@ impl Reach {
     pub fn of(alloc: Global, shape: &Shape, clocks: Vec<Clock>) -> Result<Reach, Stop> {
         let nodes = shape.chains.nodes();
         let mut reach = Reach {
-            clocks: Clocks::of(alloc, clocks),
-            beyond: Clocks::of(alloc, all_beyond(alloc, &shape.writers)?),
+            clocks: Clocks::of(alloc, clocks)?,
+            beyond: Clocks::of(alloc, all_beyond(alloc, &shape.writers)?)?,
             links: Links::new(alloc, nodes as usize)?,
             queue: Queue::new(alloc, nodes as usize)?,
             fronts: *shape.chains.starts(),

@@ -1,13 +1,12 @@
-use Rattle.std.proofs.Common.{◌≡◌, ℕ, List, max, leb, eqb, true, cond, get_or, set, sym, ◌∙◌, ap, arith}
+use Rattle.std.proofs.Common.{◌≡◌, ℕ, List, max, leb, get_or, set, sym, ◌∙◌, ap, arith}
 use Rattle.std.proofs.Math.ListN.{length-set}
 use Rattle.std.specs.List.{list_any}
-use Rattle.std.specs.HashSet.{contains}
 use Rattle.std.proofs.lemmas.List.{get_or_default}
 use Rattle.std.proofs.lemmas.List.Elements.{All-push}
 use Rattle.replay_model.specs.declared.Entry.{Entry}
 use Rattle.replay_model.specs.MoreReads.{is_entry_for}
 use Rattle.log_file.specs.LogReading.{ends_late}
-use Rattle.log_file.specs.Seen.{IsNumbered, pair_of}
+use Rattle.log_file.specs.Seen.{IsNumbered}
 use Rattle.log_file.proofs.Kept.{pairs_more, ends_more}
 use Rattle.log_file.proofs.seen.Seen.push.Goals as goal
 
@@ -22,13 +21,11 @@ returns-clause-kept c =
     let greater : c.max.result ≡ max (get_or ends entry.word 0) entry.last = c.max.ensures ∙ ap (λ (n : ℕ). max n entry.last) read in
     let same : set ends c.from-word.result c.max.result ≡ set ends entry.word (max (get_or ends entry.word 0) entry.last) = cc in
     record {
-      numbered = rw c.in_ok-push.ensures.items (All-push (λ (e : Entry). IsNumbered e.source) seen.entries.items entry c.requires.kept.numbered c.pair_of.ensures.numbered);
+      numbered = rw c.in_ok-push-2.ensures.items (All-push (λ (e : Entry). IsNumbered e.source) seen.entries.items entry c.requires.kept.numbered c.pair_of.ensures.numbered);
       pairs = λ w s n.
-          let key : c.pair_of.result ≡ pair_of entry.word entry.source = c.pair_of.ensures.value in
-          let knows : contains eqb c.insert.new.self (pair_of w s) ≡ cond (eqb (pair_of entry.word entry.source) (pair_of w s)) true (contains eqb seen.pairs (pair_of w s)) =
-          c.in_ok-insert.ensures.updates.0 (pair_of w s) ∙ ap (λ (k : ℕ). cond (eqb k (pair_of w s)) true (contains eqb seen.pairs (pair_of w s))) key in
-          pairs_more w s seen.entries.items entry _ _ n c.pair_of.ensures.numbered (c.requires.kept.pairs w s n) knows ∙ ap (list_any (is_entry_for w s)) (sym c.in_ok-push.ensures.items);
+          rw (c.in_ok-push.ensures, c.pair_of.ensures.value)
+          (pairs_more w s seen.entries.items entry seen.pairs n c.pair_of.ensures.numbered (c.requires.kept.pairs w s n) ∙ ap (list_any (is_entry_for w s)) (sym c.in_ok-push-2.ensures.items));
       ends = λ w n pos there.
           ap (λ (xs : List ℕ). leb n (get_or xs w 0)) same ∙ ends_more ends w n seen.entries.items entry c.requires.there (c.requires.kept.ends w n pos (omega (arith, length-set ends c.from-word.result c.max.result, there))) ∙
-          ap (list_any (ends_late w n)) (sym c.in_ok-push.ensures.items);
+          ap (list_any (ends_late w n)) (sym c.in_ok-push-2.ensures.items);
     }
