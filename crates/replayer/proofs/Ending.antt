@@ -1,6 +1,6 @@
 -- All threads: after the turn of one of them, and while each runs to its end.
 use Rattle.std.proofs.Common.{◌≡◌, ℕ, suc, ◌+◌, ◌<◌, List, [], ◌∷◌, ◌++◌, length, refl, sym, ◌∙◌, ap, subst, arith}
-use Rattle.std.specs.Prelude.{slice_index_or, slice_set}
+use Rattle.std.specs.Prelude.{IfSome, slice_index_or, slice_set}
 use Rattle.std.proofs.lemmas.List.{length-set, get_or_default, length_push, length-replicate, length-map}
 use Rattle.replay_model.specs.Steps.{Step, initial_cells}
 use Rattle.replay_model.specs.Histories.{World, steps_of, opening}
@@ -20,6 +20,7 @@ use Rattle.replayer.specs.Replays.{Replaying, unplayed, after_turn, threads_by, 
 use Rattle.replayer.specs.KeptSteps.{AreLeft}
 use Rattle.replayer.specs.Words.{left_of}
 use Rattle.replayer.specs.Seats.{IsSeat, IsAt, IsShown, IsReplaying, AreFresh, AreAllLeft, HasRunOut, turned, run_out}
+use Rattle.replayer.proofs.Noting.{none_noted}
 use Rattle.replayer.proofs.Running.{turned-is}
 
 -- one thread of those shown
@@ -78,9 +79,9 @@ fresh-none p log = record { counted = refl; each = λ t seat l. absurd (omega ar
 
 -- the opening state is that of no turn
 pub replaying-start : (p : ProgramValue) (log : Log) (shared : ReplayWords) (seats : List RunningThread) → length p.threads ≡ length log.threads → length p.words ≡ length log.last_tags → shared.cells.items ≡ initial_cells p.words →
-    AreAllLeft log (length p.threads) shared.kept.items → AreFresh p log (length p.threads) seats → IsReplaying (unplayed p log) shared seats
+    AreAllLeft log (length p.threads) shared.kept.items → IfSome shared.notes (λ writes. writes.items ≡ []) → AreFresh p log (length p.threads) seats → IsReplaying (unplayed p log) shared seats
 unfolding turns
-replaying-start p log shared seats threads words memory named fresh = record {
+replaying-start p log shared seats threads words memory named unnoted fresh = record {
   threads = threads;
   words = words;
   shown = record {
@@ -92,6 +93,7 @@ replaying-start p log shared seats threads words memory named fresh = record {
       left = λ t l.
           let P : List Step → Type 0 = λ s. AreLeft log t (length s) (left_of shared t) in
           subst P (sym (opening_steps (length log.threads) t)) (named.each t l);
+      noted = none_noted p.words (length log.threads) shared.notes unnoted;
     };
     seated = fresh.counted;
     each = λ t seat l.

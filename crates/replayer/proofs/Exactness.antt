@@ -27,7 +27,7 @@ use Rattle.history.specs.HistoryLogs.{log_of_history, FitsProgram}
 use Rattle.history.proofs.Playing.{threads_count}
 use Rattle.replayer.specs.declared.replay.Replayed.{Replayed}
 use Rattle.replayer.specs.declared.replay.Replayed.TheVariants.{Same, Differs}
-use Rattle.replayer.specs.Replays.{Replaying, unplayed, after_turn, threads_by, world_by, world_of, replay_by, ended}
+use Rattle.replayer.specs.Replays.{Replaying, after_turn, threads_by, world_by, world_of, replay_by, ended, IsBy}
 use Rattle.replayer.specs.Seats.{turned, run_out}
 use Rattle.replayer.proofs.Running.{turned-is}
 use Rattle.replayer.proofs.Ending.{world-turned}
@@ -114,15 +114,9 @@ pub exact-by-order : (r : Replaying) (replayed : Replayed) → length r.program.
     (order : List Event) → Respects r.log order → world_of r ≡ world_by r.program r.log order → IsExact r.program r.log replayed
 exact-by-order r replayed counted h order respects e = exactly r.program r.log order replayed counted respects (verdict-by-order r order replayed e h)
 
--- a replay that has taken the first turns of an order
-pub record IsBy (p : ProgramValue) (log : Log) (order : List Event) (r : Replaying) : Type 0 where
-  pub of_program : r.program ≡ p
-  pub by_log : r.log ≡ log
-  pub world : world_of r ≡ world_by p log order
-
 -- no turn was taken
-pub by-none : (p : ProgramValue) (log : Log) (r : Replaying) → r ≡ unplayed p log → IsBy p log [] r
-by-none p log r e = subst (IsBy p log []) (sym e) (record { of_program = refl; by_log = refl; world = refl })
+pub by-none : (p : ProgramValue) (r : Replaying) → r.program ≡ p → r.turns ≡ [] → IsBy p r.log [] r
+by-none p r e n = record { of_program = e; by_log = refl; world = ap (λ (q : ProgramValue). world_by q r.log r.turns) e ∙ ap (world_by p r.log) n }
 
 -- one more turn
 pub by-more : (p : ProgramValue) (log : Log) (order : List Event) (event : Event) (r new : Replaying) → IsBy p log order r → new ≡ after_turn r event → IsBy p log (order ++ event ∷ []) new
@@ -147,6 +141,12 @@ by-nothing p log order event r is far = record {
       moves_ended (threads_by p log) (keeps log) _ event.thread (world_by p log order) (has_only p log.limits (taken_in log) event.thread (steps_of (world_by p log order).threads event.thread) far)
       );
 }
+
+-- the end after all of them is that of the replay by the order
+pub end-by : (p : ProgramValue) (log : Log) (order : List Event) (r : Replaying) → IsBy p log order r → ended r ≡ replay_by p log order
+end-by p log order r is =
+    end-of-order r order (is.world ∙ ap (λ (q : ProgramValue). world_by q log order) (sym is.of_program) ∙ ap (λ (l : Log). world_by r.program l order) (sym is.by_log)) ∙
+    ap (λ (l : Log). replay_by r.program l order) is.by_log ∙ ap (λ (q : ProgramValue). replay_by q log order) is.of_program
 
 -- all turns of an order were taken
 pub by-all : (p : ProgramValue) (log : Log) (order : List Event) (r : Replaying) (replayed : Replayed) → IsBy p log order r → IsVerdict r.program r.log (ended r) replayed → IsVerdict p log (replay_by p log order) replayed

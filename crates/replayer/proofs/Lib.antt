@@ -1,5 +1,6 @@
 pub mod Adding
 pub mod Cursors
+pub mod Noting
 pub mod Running
 pub mod Items
 pub mod Ending

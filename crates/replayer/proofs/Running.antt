@@ -1,6 +1,6 @@
 -- A thread that runs up to a step, or to its end, from the steps that were added.
 use Rattle.std.proofs.Common.{◌≡◌, ℕ, ◌+◌, ◌-◌, ◌<◌, ◌≤◌, Bool, true, false, List, [], ◌∷◌, ◌++◌, length, refl, sym, ◌∙◌, ap, subst, arith, inl, inr, ◌⊎◌, append_assoc, append-nil, length-append}
-use Rattle.std.specs.Prelude.{Option, Some, None, cond, slice_index_or}
+use Rattle.std.specs.Prelude.{Option, Some, None, IfSome, cond, slice_index_or, slice_set}
 use Rattle.std.proofs.lemmas.Bool.{cases_eq}
 use Rattle.std.proofs.lemmas.List.{length_push, length-set, get_or-set_same, get_or-set_other}
 use Rattle.replay_model.specs.declared.End.{End}
@@ -25,7 +25,9 @@ use Rattle.replayer.specs.KeptSteps.{begins_with, past, AreLeft}
 use Rattle.replayer.specs.Replays.{threads_by}
 use Rattle.replayer.specs.Words.{left_of, IsReady, Takes, AreWords}
 use Rattle.replayer.specs.Seats.{IsSeat, IsAt, IsEndBefore, HasRun, HasStopped, HasRunOut, turned}
+use Rattle.replayer.specs.Notes.{AreWrites}
 use Rattle.replayer.proofs.Cursors.{Advances, left-step}
+use Rattle.replayer.proofs.Noting.{noted-more}
 
 length-cond : {X : Type 0} (b : Bool) (xs ys : List X) → length xs ≡ length ys → length (cond b xs ys) ≡ length ys
 length-cond true xs ys h = h
@@ -48,6 +50,9 @@ one-moved p log world t step old new there are wants lives takes = record {
     counted = move_count (threads_by p log) (keeps log) t world ∙ are.counted;
     all = ap length takes.kept ∙ length-set old.kept.items t (past (length steps + 1) (left_of old t)) ∙ are.all;
     left = λ u l. by_thread u l (cases_eq u t);
+    noted =
+        let Q : List (List Step) → Type 0 = λ runs. IfSome new.notes (λ writes. AreWrites runs writes.items) in
+        subst Q (sym written) (noted-more world.threads t step (let c = are.counted in omega (arith, c, there)) old.notes new.notes takes.noted are.noted);
   };
   steps = more;
 }
@@ -62,6 +67,11 @@ one-moved p log world t step old new there are wants lives takes = record {
     more =
         move_steps (threads_by p log) (keeps log) t world step.want (let c = are.counted in omega (arith, c, there)) wants lives ∙
         ap (λ (f : Option Cell). steps ++ record { want = step.want; found = f } ∷ []) (sym found)
+
+    written : (move (threads_by p log) (keeps log) t world).threads ≡ slice_set world.threads t (steps ++ step ∷ [])
+    written =
+        ap (λ (w : World). w.threads) (move_shape (threads_by p log) (keeps log) t world step.want wants lives) ∙
+        ap (λ (f : Option Cell). slice_set world.threads t (steps ++ record { want = step.want; found = f } ∷ [])) (sym found)
 
     advances : Advances log t (length steps) (left_of old t)
     advances = left-step log t (length steps) (left_of old t) (are.left t there)

@@ -46,6 +46,12 @@ abbrev pub ended : Replaying → World
 ended replaying =
     skip_play.finish (threads_by replaying.program replaying.log) (keeps replaying.log) replaying.log.limits.steps (length replaying.log.threads) (world_of replaying)
 
+-- the turns of an order were taken
+pub record IsBy (p : ProgramValue) (log : Log) (order : List Event) (replaying : Replaying) : Type 0 where
+  pub of_program : replaying.program ≡ p
+  pub by_log : replaying.log ≡ log
+  pub world : world_of replaying ≡ world_by p log order
+
 -- the steps of a thread
 abbrev pub thread_steps : Replaying → ℕ → List Step
 thread_steps replaying t = steps_of (world_of replaying).threads t

@@ -5,6 +5,7 @@
 mod difference;
 mod kept_steps;
 mod laws;
+mod notes;
 mod order;
 mod replay;
 mod seat;
@@ -13,7 +14,8 @@ mod words;
 pub use difference::{Difference, Kept};
 pub use kept_steps::KeptSteps;
 pub use laws::replay_law;
-pub use order::replay_order;
+pub use notes::Written;
+pub use order::{replay_noting, replay_order};
 pub use replay::{Replay, Replayed, Turned, opening_kept, opening_seats};
 pub use seat::run_to;
 pub use words::ReplayWords;

@@ -1,10 +1,11 @@
 // A replay of a program by a log.
-ghost use Rattle.std.specs.Prelude.{◌≡◌, ℕ, ◌<◌, All, IfOk, List, OnErr, OnOk, MatchOption, length, map};
+ghost use Rattle.std.specs.Prelude.{◌≡◌, ℕ, ◌<◌, All, IfOk, IfSome, List, [], OnErr, OnOk, MatchOption, length, map};
 ghost use Rattle.replay_model.specs.RunLogs.{last_tags};
 ghost use Rattle.replay_model.specs.Histories.{World, steps_of};
 ghost use Rattle.replay_model.specs.Orders.{Respects};
 ghost use Rattle.machine.specs.Cores.{report_of};
 ghost use Rattle.replayer.specs.Differences.{part_of, PartsCompared, LogCompared};
+ghost use Rattle.replayer.specs.Notes.{AreWrites};
 ghost use Rattle.replayer.specs.Replays.{Replaying, unplayed, after_turn, world_by, world_of, thread_steps, ended, IsTurned, HasBegun};
 ghost use Rattle.replayer.specs.Verdicts.{IsVerdict, IsExactByAnyOrder};
 ghost use Rattle.replayer.specs.Seats.{seat_part, AreFresh, AreAllLeft, HasEnded, IsShown, AllRunOut, AllSettled, IsAnswer};
@@ -12,6 +13,7 @@ ghost use Rattle.replayer.specs.Seats.{seat_part, AreFresh, AreAllLeft, HasEnded
 use crate::difference::{Difference, logged_side, tag_difference, thread_difference};
 use crate::kept_steps::KeptSteps;
 use crate::laws::replay_law;
+use crate::notes::Written;
 use crate::seat::{new_seat, run_to, run_to_end, side};
 use crate::words::ReplayWords;
 use dep_log::RunLog;
@@ -183,11 +185,16 @@ fn answer(
 }
 
 impl<'p> Replay<'p> {
-    /// The opening state: each word has its initial value, which nobody wrote, and no thread has taken a step. The log is
-    /// one of as many threads and words as the program has.
-    pub fn new(alloc: Global, program: &'p Program, log: &'p RunLog) -> Result<Replay<'p>, Memory>
+    // The opening state, with these notes.
+    fn with_notes(
+        alloc: Global,
+        program: &'p Program,
+        log: &'p RunLog,
+        notes: Option<Vec<Written>>,
+    ) -> Result<Replay<'p>, Memory>
         requires threads { length program.now.threads ≡ length log.now.threads }
         requires words { length program.now.words ≡ length log.now.last_tags }
+        requires notes { IfSome notes (λ writes. writes.items ≡ []) }
         ensures { IfOk result (λ replay. replay ≡ unplayed program.now log.now) }
     {
         let cells = opening_cells(alloc, program.words())?;
@@ -196,11 +203,34 @@ impl<'p> Replay<'p> {
         Ok(Replay {
             program,
             log,
-            words: ReplayWords { cells, kept },
+            words: ReplayWords { cells, kept, notes },
             seats,
             turns: Vec::new(alloc),
             alloc,
         })
+    }
+
+    /// The opening state: each word has its initial value, which nobody wrote, and no thread has taken a step. The log is
+    /// one of as many threads and words as the program has.
+    pub fn new(alloc: Global, program: &'p Program, log: &'p RunLog) -> Result<Replay<'p>, Memory>
+        requires threads { length program.now.threads ≡ length log.now.threads }
+        requires words { length program.now.words ≡ length log.now.last_tags }
+        ensures { IfOk result (λ replay. replay ≡ unplayed program.now log.now) }
+    {
+        Replay::with_notes(alloc, program, log, None)
+    }
+
+    /// The same of a replay that notes the writes of the threads, for `finish_noted`.
+    pub fn noting(
+        alloc: Global,
+        program: &'p Program,
+        log: &'p RunLog,
+    ) -> Result<Replay<'p>, Memory>
+        requires threads { length program.now.threads ≡ length log.now.threads }
+        requires words { length program.now.words ≡ length log.now.last_tags }
+        ensures { IfOk result (λ replay. replay ≡ unplayed program.now log.now) }
+    {
+        Replay::with_notes(alloc, program, log, Some(Vec::new(alloc)))
     }
 
     /// How many memory steps a thread has taken.
@@ -250,14 +280,11 @@ impl<'p> Replay<'p> {
         }
     }
 
-    /// Runs each thread to its end, thread 0 first, and compares: `Same` exactly where the entries, the numbers of steps,
-    /// of instructions and of input numbers taken and the ends of all threads, and the last tags of all words are those of
-    /// the log; and else the first difference.
-    pub fn finish(self) -> Result<Replayed, Memory>
-        ensures verdict { IfOk result (IsVerdict self.entry.program self.entry.log (ended self.entry)) }
-        // After the turns of an order that respects the log: exactly where some runs fit the log, and then with their
-        // reports and with the values that the last tags name.
-        ensures exact { IfOk result (IsExactByAnyOrder self.entry) }
+    // Runs each thread to its end, and compares; and what is noted.
+    fn settle(self) -> Result<(Replayed, Option<Vec<Written>>), Memory>
+        ensures verdict { IfOk result (λ settled. IsVerdict self.entry.program self.entry.log (ended self.entry) settled.0) }
+        ensures exact { IfOk result (λ settled. IsExactByAnyOrder self.entry settled.0) }
+        ensures noted { IfOk result (λ settled. IfSome settled.1 (λ writes. AreWrites (ended self.entry).threads writes.items)) }
     {
         let Replay {
             program,
@@ -269,6 +296,33 @@ impl<'p> Replay<'p> {
         } = self;
         replay_law();
         run_out(program, log, &mut words, &mut seats)?;
-        answer(alloc, log, &words.cells, seats)
+        let replayed = answer(alloc, log, &words.cells, seats)?;
+        Ok((replayed, words.notes))
+    }
+
+    /// Runs each thread to its end, thread 0 first, and compares: `Same` exactly where the entries, the numbers of steps,
+    /// of instructions and of input numbers taken and the ends of all threads, and the last tags of all words are those of
+    /// the log; and else the first difference.
+    pub fn finish(self) -> Result<Replayed, Memory>
+        ensures verdict { IfOk result (IsVerdict self.entry.program self.entry.log (ended self.entry)) }
+        // After the turns of an order that respects the log: exactly where some runs fit the log, and then with their
+        // reports and with the values that the last tags name.
+        ensures exact { IfOk result (IsExactByAnyOrder self.entry) }
+    {
+        let (replayed, _) = self.settle()?;
+        Ok(replayed)
+    }
+
+    /// The same of a replay that notes the writes, with all that its threads made, of each the step and the word. Where there
+    /// was no memory for a note, or the replay notes none, this is want of memory.
+    pub fn finish_noted(self) -> Result<(Replayed, Vec<Written>), Memory>
+        ensures verdict { IfOk result (λ noted. IsVerdict self.entry.program self.entry.log (ended self.entry) noted.0) }
+        ensures exact { IfOk result (λ noted. IsExactByAnyOrder self.entry noted.0) }
+        ensures writes { IfOk result (λ noted. AreWrites (ended self.entry).threads noted.1.items) }
+    {
+        match self.settle()? {
+            (replayed, Some(writes)) => Ok((replayed, writes)),
+            (_, None) => Err(Memory),
+        }
     }
 }

@@ -74,7 +74,11 @@ fn play(alloc: Global, plan: &Plan, order: &[Event]) -> Result<Vec<RunningThread
     let cells = opening_cells(alloc, plan.program.words())?;
     let kept = opening_kept(alloc, plan.log, plan.program.threads_count() as u8)?;
     let mut seats = opening_seats(alloc, plan.program, plan.log)?;
-    let mut words = ReplayWords { cells, kept };
+    let mut words = ReplayWords {
+        cells,
+        kept,
+        notes: None,
+    };
     take_turns(plan, order, &mut words, &mut seats)?;
     go_to_numbers(plan, &mut words, &mut seats)?;
     Ok(seats)
