@@ -29,10 +29,11 @@ use Rattle.constraints.proofs.Ranked.{All-from}
 use Rattle.constraints.proofs.Listed.{Before, of_list as event-of, in_list as event-in}
 use Rattle.constraints.proofs.Listing.{before_asym, event_tagged}
 use Rattle.constraints.proofs.Strict.{same_ordered, deduped, nat_ties, nat-less, of_filter_map, in_filter_map, AllPairs-filter_map}
-use Rattle.audit.specs.declared.placed.Written.{Written}
+use Rattle.replayer.specs.declared.notes.Written.{Written}
 use Rattle.audit.specs.Positions.{placed_list}
 use Rattle.audit.specs.Constraints.{impossible}
-use Rattle.audit.specs.Gathering.{AreWrites, to_initial}
+use Rattle.replayer.specs.Notes.{AreWrites}
+use Rattle.audit.specs.Gathering.{to_initial}
 use Rattle.audit.proofs.Keeping.{never-last, last-never}
 use Rattle.audit.proofs.Listed.{of_list, in_list, list_before}
 

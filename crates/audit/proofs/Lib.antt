@@ -10,4 +10,7 @@ mod Reading
 mod Gathered
 mod Rivaling
 mod Filling
+pub mod Rowing
+pub mod Tabling
+pub mod Basing
 mod WorkedExamples

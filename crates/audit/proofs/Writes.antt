@@ -39,14 +39,14 @@ entry-read log e (t, a, c, q) =
     (let P : Tag → Type 0 = λ x. same_tag a.source x ≡ true in subst P q (same_tag-same a.source)))
 
 -- a step is the last read of some entry of this source
-last-entry : (log : Log) (source : Tag) (e : Event) → is_last_of log source e ≡ true → (a : Entry) × HasEntry log e.thread a × (a.source ≡ source) × (last_event e.thread a ≡ e)
+pub last-entry : (log : Log) (source : Tag) (e : Event) → is_last_of log source e ≡ true → (a : Entry) × HasEntry log e.thread a × (a.source ≡ source) × (last_event e.thread a ≡ e)
 last-entry log source e h =
     let (a, c, m) = any-element (λ (entry : Entry). same_tag entry.source source && eqb e.step entry.last) (thread_of log e.thread).entries h in
     let (p, q) = and_parts (same_tag a.source source) (eqb e.step a.last) m in
     let l : e.step ≡ a.last = eqb-true e.step a.last q in
     (a, c, same_tag-true a.source source p, λ i. record { thread = e.thread; step = sym l i })
 
-entry-last : (log : Log) (source : Tag) (t : ℕ) (a : Entry) → HasEntry log t a → a.source ≡ source → is_last_of log source (last_event t a) ≡ true
+pub entry-last : (log : Log) (source : Tag) (t : ℕ) (a : Entry) → HasEntry log t a → a.source ≡ source → is_last_of log source (last_event t a) ≡ true
 entry-last log source t a c q =
     element-any (λ (entry : Entry). same_tag entry.source source && eqb a.last entry.last) (thread_of log t).entries a c
     (and_from (same_tag a.source source) (eqb a.last a.last) (let P : Tag → Type 0 = λ x. same_tag a.source x ≡ true in subst P q (same_tag-same a.source)) (eq-eqb a.last a.last refl))

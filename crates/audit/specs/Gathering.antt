@@ -1,5 +1,5 @@
--- What is gathered for the constraints of placings: the writes of runs, and the steps that have a place.
-use Rattle.std.specs.Prelude.{◌≡◌, ℕ, Bool, None, Result, List, IfOk, Contains, slice_index_or}
+-- What is gathered for the constraints of placings: the steps that have a place.
+use Rattle.std.specs.Prelude.{◌≡◌, ℕ, Bool, None, Result, List, IfOk, slice_index_or}
 use Rattle.std.specs.Global.{Vec}
 use Rattle.light_base.specs.declared.memory.Memory.{Memory}
 use Rattle.light_base.specs.declared.tag.Event.{Event}
@@ -8,15 +8,11 @@ use Rattle.replay_model.specs.Steps.{Step, same_tag}
 use Rattle.replay_model.specs.Threads.{Threads}
 use Rattle.replay_model.specs.Logs.{Log}
 use Rattle.replay_model.specs.RunLogs.{Tallies}
-use Rattle.replay_model.specs.Fitting.{Fits, HasWritten}
-use Rattle.audit.specs.declared.placed.Written.{Written}
+use Rattle.replay_model.specs.Fitting.{Fits}
+use Rattle.replayer.specs.declared.notes.Written.{Written}
+use Rattle.replayer.specs.Notes.{AreWrites}
 use Rattle.audit.specs.Positions.{placed_list}
 use Rattle.audit.specs.Constraints.{impossible}
-
--- these are the steps of the runs that wrote, each with its word
-pub record AreWrites (runs : List (List Step)) (writes : List Written) : Type 0 where
-  pub all : (e : Event) (word value : ℕ) → HasWritten runs e word value → Contains writes (record { event = e; word = word })
-  pub only : (w : Written) → Contains writes w → (value : ℕ) × HasWritten runs w.event w.word value
 
 -- the steps that have a place, of any runs that fit the log and wrote so
 abbrev pub ListsPlaced : Log → List Written → Result (Vec Event) Memory → Type 0

@@ -7,3 +7,6 @@ pub mod Examples
 pub mod Gathering
 pub mod Rivalries
 pub mod NextSet
+pub mod Rows
+pub mod Tables
+pub mod Cases

@@ -7,14 +7,8 @@ ghost use Rattle.audit.specs.Gathering.{to_initial, ListsPlaced, TellsImpossible
 use constraints::Problem;
 use dep_log::RunLog;
 use light_base::{Event, Memory, Tag};
+use replayer::Written;
 use std::alloc::Global;
-
-/// A write that a run made: the step, and the word that it wrote.
-#[derive(Clone, Copy, Debug, PartialEq, Eq)]
-pub struct Written {
-    pub event: Event,
-    pub word: u16,
-}
 
 // Adds the tags of events.
 fn put_tags(tags: &mut Vec<Tag>, events: &[Event]) -> Result<(), Memory>

@@ -6,7 +6,7 @@ use Rattle.std.proofs.lemmas.Result.{IfOk-weaker}
 use Rattle.light_base.specs.Tags.{bits_of}
 use Rattle.light_base.specs.declared.tag.Event.{Event}
 use Rattle.light_base.specs.declared.tag.Tag.{Tag}
-use Rattle.audit.specs.declared.placed.Written.{Written}
+use Rattle.replayer.specs.declared.notes.Written.{Written}
 use Rattle.audit.specs.Positions.{placed_list}
 use Rattle.audit.proofs.Keeping.{told, counted}
 use Rattle.audit.proofs.Gathered.{events_tagged, sorted_placed}

@@ -1,5 +1,5 @@
 use Rattle.std.proofs.Common.{◌≡◌, ◌++◌, Some, map, take}
-use Rattle.audit.specs.declared.placed.Written.{Written}
+use Rattle.replayer.specs.declared.notes.Written.{Written}
 use Rattle.audit.proofs.placed.put_writes.Given as goal
 
 abbrev pub invariant-loop-write : goal.invariant-loop-write
