@@ -74,6 +74,7 @@ module _ (fit : HistoryRunsFit) (respect : HistoryEventsRespect) (files : Files)
     undone status.Spent is fails same = (fails, same)
     undone (status.Differs difference) is fails same =
         absurd (fails.none _ (fit had.loaded.program had.limits had.inputs (sha256 had.loaded.bytes) had.history had.whole))
+    undone status.NotLegal is fails same = absurd fails
     undone (status.Strays stray) is fails same = absurd fails
     undone (status.Disrespects fault) is fails same = absurd fails
     undone s is fails same = absurd is

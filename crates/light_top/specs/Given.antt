@@ -119,6 +119,11 @@ given (command.Until image log thread step budget) files = do
   own ← of_program i l
   there ← with_step thread step own
   Ok (task.Until i there thread step budget)
+given (command.Audit image log budget) files = do
+  i ← image_in files image
+  l ← log_in files log
+  own ← of_program i l
+  Ok (task.Audit i own budget)
 given (command.Arena number) files = Ok (task.Arena number)
 
 -- ---- what is answered of this

@@ -8,6 +8,7 @@ pub mod Given
 pub mod Outputs
 pub mod Solving
 pub mod Stopping
+pub mod Auditing
 pub mod Arenas
 pub mod Tasks
 pub mod Outside

@@ -25,6 +25,7 @@ use Rattle.light_top.specs.Logs.{logged_print, image_print}
 use Rattle.light_top.specs.Arenas.{IsArenaEnd, Endless}
 use Rattle.light_top.specs.Solving.{Unsolved, Unreplayed, IsDisrespectful, IsSolved, IsReplayed}
 use Rattle.light_top.specs.Stopping.{IsSnapText, Unstopped}
+use Rattle.light_top.specs.Auditing.{IsLegalText, Illegal}
 use Rattle.light_top.specs.declared.status.Status.{Status}
 
 -- the inputs have a list for each thread of the program that they are for; an order is that of a file; a log is that of the
@@ -34,6 +35,7 @@ IsMatched (task.Play image limits inputs) = length inputs ≡ length image.progr
 IsMatched (task.Record image log limits crew inputs) = length inputs ≡ length image.program.threads
 IsMatched (task.Check log order) = length order < 2 ^ 32
 IsMatched (task.Replay image log schedule budget) = logged_print log ≡ image_print image
+IsMatched (task.Audit image log budget) = logged_print log ≡ image_print image
 IsMatched (task.Until image log thread step budget) =
     (logged_print log ≡ image_print image) × (thread < length log.threads) × (step ≤ (thread_of log thread).steps)
 IsMatched _ = Unit {0}
@@ -98,6 +100,9 @@ Means (task.Races log) output = output ≡ printed (races_text most_pairs log)
 -- how the thread stands right after its step, in the play up to the step's cut by an order that respects the log
 Means (task.Until image log thread step budget) output =
     IsImage image.bytes image.program × IsSnapText image.program log thread step output.text × (output ≡ printed output.text)
+-- that the log is that of a whole history of the program, and how many steps this history has
+Means (task.Audit image log budget) output =
+    IsImage image.bytes image.program × IsLegalText image.program log output.text × (output ≡ printed output.text)
 -- the summary of the arena, by the values at the end of one whole history of it
 Means (task.Arena number) output = (values : List ℕ) × IsArenaEnd (arena_of number) values × (output ≡ printed (summary_of number values))
 
@@ -108,6 +113,7 @@ Fails (task.Check log order) s = IsDisrespectful log order s
 Fails (task.Solve log schedule budget) s = Unsolved log budget s
 Fails (task.Replay image log schedule budget) s = Unreplayed image.program log budget s
 Fails (task.Until image log thread step budget) s = Unstopped image.program log thread step budget s
+Fails (task.Audit image log budget) s = Illegal image.program log budget s
 Fails (task.Arena number) s = Endless (arena_of number) s
 Fails task s = ⊥
 

@@ -176,6 +176,15 @@ until_of (image ∷ log ∷ thread ∷ step ∷ budget ∷ []) = do
   Some (command.Until image log thread step budget)
 until_of _ = None
 
+-- IMAGE LOG BUDGET
+abbrev pub audit_of : List (List ℕ) → Option Command
+audit_of (image ∷ log ∷ budget ∷ []) = do
+  image ← name_of image
+  log ← name_of log
+  budget ← any_number_of budget
+  Some (command.Audit image log budget)
+audit_of _ = None
+
 -- NUMBER
 abbrev pub arena_of_words : List (List ℕ) → Option Command
 arena_of_words (number ∷ []) = do
@@ -198,5 +207,6 @@ command_of (verb ∷ rest) =
     else if bytes_eq verb (codes "replay") then replay_of rest
     else if bytes_eq verb (codes "races") then races_of rest
     else if bytes_eq verb (codes "until") then until_of rest
+    else if bytes_eq verb (codes "audit") then audit_of rest
     else if bytes_eq verb (codes "arena") then arena_of_words rest
     else None

@@ -2,6 +2,7 @@
 #![tactic(auto)]
 
 mod arenas;
+mod auditing;
 mod bytes;
 mod crew;
 mod delivery;

@@ -47,6 +47,8 @@ pub enum Status {
     InputRefused(InputFault),
     /// The program has so many threads, and the inputs so many lists, which is another number.
     WrongInputs { program: u8, inputs: u8 },
+    /// No whole history of the program has the log.
+    NotLegal,
     /// The log has no such thread or no such step: it has so many threads, and this one so many steps, which are 0 where
     /// it isn't there.
     NoStep { threads: u8, steps: u32 },
@@ -79,6 +81,7 @@ impl Status {
             Status::SinkFault => 14,
             Status::InputRefused(_) => 15,
             Status::WrongInputs { .. } => 16,
+            Status::NotLegal => 17,
             Status::NoStep { .. } => 18,
             Status::Strays(_) => 19,
             Status::Memory => 70,
@@ -239,6 +242,7 @@ pub fn status_text(alloc: Global, status: &Status) -> Result<Vec<u8>, Memory>
             put_input_refusal(&mut text, u64::from(fault.kind.code()))?
         }
         Status::WrongInputs { .. } => text.extend_from_slice(b"light: wrong inputs\n")?,
+        Status::NotLegal => text.extend_from_slice(b"light: not legal\n")?,
         Status::NoStep { .. } => text.extend_from_slice(b"light: no such step\n")?,
         Status::Strays(stray) => put_stray(&mut text, stray)?,
         Status::Memory => text.extend_from_slice(b"light: out of memory\n")?,

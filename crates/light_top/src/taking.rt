@@ -217,6 +217,24 @@ fn take_until<'a, S: Store>(
     })
 }
 
+// To tell whether a log is that of a whole history.
+fn take_audit<'a, S: Store>(
+    alloc: Global,
+    store: &mut S,
+    image: Name<'a>,
+    log: Name<'a>,
+    budget: u32,
+) -> Result<Task<'a>, Status>
+    ensures ok { IfOk result (Gives (S.told store.old) (S.told store.new) (given (command.Audit image.entry log.entry budget))) }
+    ensures err { IfErr result (NotGiven (S.told store.old) (S.told store.new) (given (command.Audit image.entry log.entry budget))) }
+    ensures matched { IfOk result IsMatched }
+{
+    let image = load_image(alloc, store, &image)?;
+    let log = load_log(alloc, store, &log)?;
+    let log = of_program(&image, log)?;
+    Ok(Task::Audit { image, log, budget })
+}
+
 /// Loads what a command names, and reads it: the task that is to be done. The files stay as they are.
 pub fn take_up<'a, S: Store>(
     alloc: Global,
@@ -264,6 +282,7 @@ pub fn take_up<'a, S: Store>(
             step,
             budget,
         } => take_until(alloc, store, image, log, thread, step, budget),
+        Command::Audit { image, log, budget } => take_audit(alloc, store, image, log, budget),
         Command::Arena { number } => Ok(Task::Arena { number }),
     }
 }

@@ -9,6 +9,7 @@ ghost use Rattle.races.specs.Texts.{races_text};
 
 use crate::Status;
 use crate::arenas::play_arena;
+use crate::auditing::audit_log;
 use crate::bytes::Bytes;
 use crate::crew::Crew;
 use crate::image::Image;
@@ -97,6 +98,12 @@ pub enum Task<'a> {
         log: RunLog,
         thread: u8,
         step: u32,
+        budget: u32,
+    },
+    /// To tell whether a log is that of a whole history.
+    Audit {
+        image: Image,
+        log: RunLog,
         budget: u32,
     },
     /// To record an arena and to replay it.
@@ -326,6 +333,10 @@ pub fn perform<'a, R: Threads + Sync, G: Gate>(
             budget,
         } => {
             let text = stop_log(alloc, image.program(), &log, thread, step, budget)?;
+            Ok(Output { text, saved: None })
+        }
+        Task::Audit { image, log, budget } => {
+            let text = audit_log(alloc, image.program(), &log, budget)?;
             Ok(Output { text, saved: None })
         }
         Task::Arena { number } => {

@@ -1,6 +1,6 @@
 // The words of the command line.
 ghost use Rattle.std.specs.Prelude.{◌≡◌, ◌<◌, ◌^◌};
-ghost use Rattle.light_top.specs.Words.{is_plain, number_of, any_number_of, name_of, limits_of, inputs_of, crew_of, form_of, texts, run_of, record_of, asm_of, list_of, show_of, upgrade_of, check_of, solve_of, replay_of, races_of, until_of, arena_of_words, command_of};
+ghost use Rattle.light_top.specs.Words.{is_plain, number_of, any_number_of, name_of, limits_of, inputs_of, crew_of, form_of, texts, run_of, record_of, asm_of, list_of, show_of, upgrade_of, check_of, solve_of, replay_of, races_of, until_of, audit_of, arena_of_words, command_of};
 
 use crate::crew::Crew;
 use machine::Limits;
@@ -117,6 +117,12 @@ pub enum Command<'a> {
         log: Name<'a>,
         thread: u8,
         step: u32,
+        budget: u32,
+    },
+    /// Tells whether a log is that of a whole history of a program, and how long such a history is.
+    Audit {
+        image: Name<'a>,
+        log: Name<'a>,
         budget: u32,
     },
     /// Records an arena program, and replays it.
@@ -343,6 +349,19 @@ fn until<'a>(words: &'a [String]) -> Option<Command<'a>>
     }
 }
 
+fn audit<'a>(words: &'a [String]) -> Option<Command<'a>>
+    ensures { result ≡ audit_of (texts words.now) }
+{
+    match words {
+        [image, log, budget] => Some(Command::Audit {
+            image: Name::of(image.as_str())?,
+            log: Name::of(log.as_str())?,
+            budget: any_number(budget.as_str())?,
+        }),
+        _ => None,
+    }
+}
+
 fn arena<'a>(words: &'a [String]) -> Option<Command<'a>>
     ensures { result ≡ arena_of_words (texts words.now) }
 {
@@ -371,6 +390,7 @@ pub fn read_command<'a>(words: &'a [String]) -> Option<Command<'a>>
             "replay" => replay(rest),
             "races" => races(rest),
             "until" => until(rest),
+            "audit" => audit(rest),
             "arena" => arena(rest),
             _ => None,
         },
