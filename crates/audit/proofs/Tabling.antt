@@ -41,6 +41,12 @@ same_answers true b f g = sym (f refl)
 same_answers false true f g = g refl
 same_answers false false f g = refl
 
+abbrev mark : ℕ → ℕ → Mark
+mark row number = record { row = row; number = number }
+
+one : (a b : Mark) → Some a ≡ Some b → a ≡ b
+one a b h = cc
+
 has-some : (xs : List ℕ) (n : ℕ) → Contains xs n → has_numbers xs ≡ true
 has-some [] n c = absurd (contains_none n c)
 has-some (x ∷ xs) n c = refl
@@ -145,11 +151,11 @@ module _ (initial : List ℕ) (log : Log) (runs : List (List Step)) (told : Told
       by t a h a.source refl (let P : Placed → Type 0 = λ y. read_mark y ≡ Some (record { row = s; number = n }) in subst P (sym r) q)
     where
       by : (t : ℕ) (a : Entry) → HasEntry log t a → (tag : Tag) → a.source ≡ tag →
-          option_map (λ source. record { row = source; number = position_of log runs (last_event t a) }) (option_map (place (placed_list log runs)) tag) ≡ Some (record { row = s; number = n }) →
+          option_map {U = Mark} (λ source. record { row = source; number = position_of log runs (last_event t a) }) (option_map (place (placed_list log runs)) tag) ≡ Some (record { row = s; number = n }) →
           (t : ℕ) × (a : Entry) × (x : Event) × HasEntry log t a × (a.source ≡ Some x) × (position_of log runs x ≡ s) × (position_of log runs (last_event t a) ≡ n)
       by t a h None q e = cc e
       by t a h (Some x) q e =
-          let m : record { row = position_of log runs x; number = position_of log runs (last_event t a) } ≡ record { row = s; number = n } = cc e in
+          let m : mark (position_of log runs x) (position_of log runs (last_event t a)) ≡ mark s n = one (mark (position_of log runs x) (position_of log runs (last_event t a))) (mark s n) e in
           (t, a, x, h, q, ap (λ (m : Mark). m.row) m, ap (λ (m : Mark). m.number) m)
 
   in-mark : (t : ℕ) (a : Entry) (x : Event) → HasEntry log t a → a.source ≡ Some x → Contains marks (record { row = position_of log runs x; number = position_of log runs (last_event t a) })
@@ -158,7 +164,7 @@ module _ (initial : List ℕ) (log : Log) (runs : List (List Step)) (told : Told
       in_filter_map read_mark (placed_entries_in (placed_list log runs) log) (placed_in (placed_list log runs) t a) (record { row = position_of log runs x; number = position_of log runs (last_event t a) })
       (in_flat_map (λ t. map (placed_in (placed_list log runs) t) (thread_of log t).entries) (thread_numbers log) t (placed_in (placed_list log runs) t a) (in_range 0 (length log.threads) t (omega arith) (omega (arith, l)))
       (in_map (placed_in (placed_list log runs) t) (thread_of log t).entries a h))
-      (ap (λ (tag : Tag). option_map (λ source. record { row = source; number = position_of log runs (last_event t a) }) (option_map (place (placed_list log runs)) tag)) q)
+      (ap (λ (tag : Tag). option_map {U = Mark} (λ source. record { row = source; number = position_of log runs (last_event t a) }) (option_map (place (placed_list log runs)) tag)) q)
 
   pub marks-inside : (marked : List Mark) → marked ≡ marks → All (λ (mark : Mark). mark.row < length (placed_list log runs)) marked
   marks-inside marked e k d l =
