@@ -78,7 +78,7 @@ module _ (a : Audited) (formed : IsWellFormed a.log) (fits : FitsProgram a.progr
   pub marks-within : (xs : List Event) (marks : List Mark) (n : ℕ) → marks ≡ map (write_mark xs) writes → n ≡ length a.log.last_tags → All (λ (m : Mark). m.row < n) marks
   marks-within xs marks n e q = subst (All (λ (m : Mark). m.row < n)) (sym e)
       (λ k d l.
-      let m = (let z = length-map writes (write_mark xs) in omega (arith, l, z)) in
+      let m : k < length writes = (let z = length-map writes (write_mark xs) in omega (arith, l, z)) in
       let w = get_or writes k (record { event = record { thread = 0; step = 0 }; word = 0 }) in
       let (v, hw) = are.only w (Contains-get_or writes k (record { event = record { thread = 0; step = 0 }; word = 0 }) m) in
       let b = written_word (threads_of a.program a.log.limits (taken_in a.log)) (tallies_of a.program a.log.limits (taken_in a.log)) a.program.words a.log (runs_in a) (stays_within a.program a.log.limits (taken_in a.log)) fits w.event w.word v hw in

@@ -1,6 +1,7 @@
 use Rattle.std.proofs.Common.{List, ◌∙◌, sym, ap, subst}
 use Rattle.light_base.specs.declared.tag.Event.{Event}
 use Rattle.replay_model.specs.Orders.{Respects}
+use Rattle.replay_model.specs.WellFormed.{IsWellFormed}
 use Rattle.replayer.specs.declared.replay.Replayed.{Replayed}
 use Rattle.replayer.specs.declared.notes.Written.{Written}
 use Rattle.replayer.specs.Notes.{AreWrites}
@@ -21,6 +22,7 @@ judge_case-requires-clause-case c =
     let p = c.args.program.now in
     let log = c.args.log.now in
     let order = c.args.order.now.items in
+    let formed : IsWellFormed log = subst IsWellFormed (c.problem.view_is ∙ c.in_ok-problem.ensures) c.problem.invariant.formed in
     let verdict = subst (IsVerdict p log (replay_by p log c.deref.result.now)) c.in_default.is c.in_ok-replayed.ensures.verdict in
     let F : List Event → Type 0 = λ events. FitsProgram p log (replay_by p log events).threads in
     let W : List Event → Type 0 = λ events. AreWrites (replay_by p log events).threads c.deref-2.result.now in
@@ -31,5 +33,5 @@ judge_case-requires-clause-case c =
       problem = c.in_ok-problem.ensures;
       fits = fits;
       writes = writes;
-      tagged = writes-tagged p log (replay_by p log order).threads c.deref-2.result.now ? fits writes;
+      tagged = writes-tagged p log (replay_by p log order).threads c.deref-2.result.now formed fits writes;
     }
