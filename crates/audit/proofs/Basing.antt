@@ -1,14 +1,13 @@
 -- The base edges of placings, by positions, and how many steps each thread has.
-use Rattle.std.proofs.Common.{◌≡◌, ℕ, zero, suc, ◌+◌, ◌<◌, ◌≤◌, ◌^◌, Bool, true, false, cond, eqb, List, [], ◌∷◌, ◌++◌, length, get_or, map, refl, sym, ◌∙◌, ap, subst, arith, inl, inr, ◌⊎◌}
+use Rattle.std.proofs.Common.{◌≡◌, ℕ, zero, suc, ◌+◌, ◌<◌, ◌≤◌, Bool, true, false, cond, eqb, List, [], ◌∷◌, ◌++◌, length, get_or, map, refl, sym, ◌∙◌, ap, subst, arith, inl, inr, ◌⊎◌}
 use Rattle.std.specs.Prelude.{◌≢◌, Contains, All, Option, Some, None, option_map}
 use Rattle.std.specs.List.{flat_map, range_with_len, count_by}
 use Rattle.std.proofs.lemmas.Bool.{cases_Bool, cases_eq, eq-eqb, ne_eqb}
-use Rattle.std.proofs.lemmas.List.{length-map, get_or-map}
+use Rattle.std.proofs.lemmas.List.{get_or-map}
 use Rattle.std.proofs.lemmas.List.Concat.{flat_map-append}
 use Rattle.std.proofs.lemmas.List.Elements.{Contains-get_or}
 use Rattle.light_base.specs.declared.tag.Event.{Event}
 use Rattle.light_base.specs.declared.tag.Tag.{Tag}
-use Rattle.plain_search.specs.declared.Edge.{Edge}
 use Rattle.replay_model.specs.declared.Entry.{Entry}
 use Rattle.replay_model.specs.Steps.{Step, same_event, same_tag}
 use Rattle.replay_model.specs.Logs.{Log, thread_of, HasEntry, last_tag, last_event}
@@ -29,7 +28,7 @@ use Rattle.audit.specs.Constraints.{writes_to, source_edges, last_tag_edges, ent
 use Rattle.audit.specs.Rows.{row_at}
 use Rattle.audit.specs.Tables.{placed_entries_in, word_edges_in, base_in}
 use Rattle.audit.proofs.Listed.{of_thread, one_position}
-use Rattle.audit.proofs.Keeping.{source_placed, tag_placed}
+use Rattle.audit.proofs.Keeping.{source_placed}
 
 flat_map-agree : {X Y : Type 0} (f g : X → List Y) (xs : List X) → ((x : X) → Contains xs x → f x ≡ g x) → flat_map f xs ≡ flat_map g xs
 flat_map-agree f g [] h = refl
@@ -70,9 +69,9 @@ count-in f own u a (suc n) = go (count-in f own u (a + 1) n)
     go : CountsIn f u (a + 1) n → CountsIn f u a (suc n)
     go (x, y) = (
       λ l.
-      let r = x (omega (arith, l)) in
-      let z = count-none (λ (e : Event). eqb e.thread u) (f a) (λ e c. ne_eqb e.thread u (λ q. let o = own a e c in absurd (omega (arith, q, o, l)))) in
-      let s = count-append (λ (e : Event). eqb e.thread u) (f a) (flat_map f (range_with_len (a + 1) n)) in omega (arith, r, z, s),
+          let r = x (omega (arith, l)) in
+          let z = count-none (λ (e : Event). eqb e.thread u) (f a) (λ e c. ne_eqb e.thread u (λ q. let o = own a e c in absurd (omega (arith, q, o, l)))) in
+          let s = count-append (λ (e : Event). eqb e.thread u) (f a) (flat_map f (range_with_len (a + 1) n)) in omega (arith, r, z, s),
       λ l m. at l m (cases_eq a u),
     )
       where

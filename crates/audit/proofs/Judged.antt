@@ -1,14 +1,10 @@
 -- What an audit comes to, from a replay and a search.
-use Rattle.std.proofs.Common.{◌≡◌, ℕ, ◌+◌, ◌<◌, ◌≤◌, ◌^◌, true, false, cond, List, length, map, refl, sym, ◌∙◌, ap, subst, arith, inl, inr}
-use Rattle.std.specs.Prelude.{sum}
-use Rattle.light_base.specs.Tags.{HasTag}
+use Rattle.std.proofs.Common.{◌≡◌, ℕ, ◌<◌, ◌^◌, true, false, cond, List, length, map, sym, ◌∙◌, ap, subst, arith, inr}
 use Rattle.light_base.specs.declared.tag.Event.{Event}
-use Rattle.plain_search.specs.Edges.{Holds}
 use Rattle.plain_search.specs.Searches.{PairProblem, Solves, outcome}
 use Rattle.replay_model.specs.Steps.{Step}
 use Rattle.replay_model.specs.Threads.{StaysWithin, HasOnly}
 use Rattle.replay_model.specs.Logs.{Log}
-use Rattle.replay_model.specs.RunLogs.{Tallies}
 use Rattle.replay_model.specs.Orders.{Respects}
 use Rattle.replay_model.specs.WellFormed.{IsWellFormed}
 use Rattle.machine.specs.Programs.{ProgramValue}
@@ -20,10 +16,10 @@ use Rattle.replayer.specs.Replays.{replay_by}
 use Rattle.replayer.specs.Verdicts.{ShowsLog}
 use Rattle.history.specs.HistoryLogs.{FitsProgram}
 use Rattle.constraints.specs.Laws.{IsLine}
-use Rattle.audit_laws.specs.Placings.{Places, placing_turns}
+use Rattle.audit_laws.specs.Placings.{placing_turns}
 use Rattle.order_solver.specs.Rivals.{AreRivals, problem_in}
 use Rattle.order_solver.specs.Findings.{IsLineOf}
-use Rattle.audit.specs.Positions.{placed_list, placed_at, placed_counts}
+use Rattle.audit.specs.Positions.{placed_list, placed_at}
 use Rattle.audit.specs.Constraints.{placing_problem, placing_dead, impossible}
 use Rattle.audit.specs.Judging.{HasThisLog, IsNotLegal, MeetsMore}
 use Rattle.audit.specs.PlacingLaws.{places_in, PlacesIsSolving, LinesArePlacings}
@@ -59,10 +55,16 @@ module _ (p : ProgramValue) (log : Log) (runs : List (List Step)) (fits : FitsPr
 
   -- the search met more dead ends
   pub spent-more : PlacingsAreSearched → (order : List Event) → Respects log order → impossible log runs ≡ false → (budget : ℕ) → budget < (outcome (problem_in (rivalry_of log runs))).dead → MeetsMore p log budget
-  spent-more searched order respects never budget more = inr (order, runs, respects, fits, (
-    let same : (outcome (problem_in (rivalry_of log runs))).dead ≡ (outcome (placing_problem log runs)).dead = ap (λ (problem : PairProblem). (outcome problem).dead) (searched log runs) in
-    let dead : placing_dead log runs ≡ (outcome (placing_problem log runs)).dead = ap (λ b. cond b 0 (outcome (placing_problem log runs)).dead) never in
-    omega (arith, more, same, dead)))
+  spent-more searched order respects never budget more = inr (
+    order,
+    runs,
+    respects,
+    fits,
+    (
+        let same : (outcome (problem_in (rivalry_of log runs))).dead ≡ (outcome (placing_problem log runs)).dead = ap (λ (problem : PairProblem). (outcome problem).dead) (searched log runs) in
+        let dead : placing_dead log runs ≡ (outcome (placing_problem log runs)).dead = ap (λ b. cond b 0 (outcome (placing_problem log runs)).dead) never in
+        omega (arith, more, same, dead)),
+  )
 
   -- a row was found
   pub line-legal : LinesArePlacings → PlacingIsLegal → PlacingsAreSearched → length p.threads ≡ length log.threads → impossible log runs ≡ false → (line : List ℕ) → IsLineOf (rivalry_of log runs) line →

@@ -1,7 +1,7 @@
 -- What is looked up in the tables of a search for a placing.
-use Rattle.std.proofs.Common.{◌≡◌, ℕ, zero, suc, ◌+◌, ◌-◌, ◌<◌, ◌≤◌, ◌^◌, Bool, true, false, eqb, List, [], ◌∷◌, length, get_or, map, take, drop, refl, sym, ◌∙◌, ap, subst, arith, inl, inr, ◌⊎◌}
-use Rattle.std.specs.Prelude.{Contains, All, not, ◌||◌}
-use Rattle.std.specs.List.{range_with_len, count_by}
+use Rattle.std.proofs.Common.{◌≡◌, ℕ, zero, suc, ◌+◌, ◌-◌, ◌<◌, ◌≤◌, Bool, true, false, eqb, List, [], ◌∷◌, length, get_or, map, take, drop, refl, sym, ◌∙◌, ap, subst, arith}
+use Rattle.std.specs.Prelude.{All, not, ◌||◌}
+use Rattle.std.specs.List.{range_with_len}
 use Rattle.std.proofs.lemmas.Bool.{ne_eqb, or_left, or_right}
 use Rattle.std.proofs.lemmas.List.{length-map, get_or-map, get_or_default}
 use Rattle.std.proofs.lemmas.List.FromFn.{get_or-map-range_with_len, length-map-range_with_len}
@@ -9,18 +9,16 @@ use Rattle.std.proofs.lemmas.List.Elements.{Contains-get_or}
 use Rattle.light_base.specs.declared.tag.Event.{Event}
 use Rattle.plain_search.specs.declared.Edge.{Edge}
 use Rattle.replay_model.specs.Steps.{Step}
-use Rattle.replay_model.specs.Logs.{Log}
 use Rattle.machine.specs.Laws.{taken_in}
 use Rattle.machine.specs.Runs.{threads_of, tallies_of}
 use Rattle.replay_laws.proofs.Skip.{Told}
-use Rattle.constraints.specs.Positions.{no_event}
 use Rattle.order_solver.specs.Rivals.{IsNextRival}
 use Rattle.audit.specs.Positions.{placed_list, placed_at, placed_counts}
-use Rattle.audit.specs.Constraints.{writes_to, is_read, last_reads_of, one_is_read}
-use Rattle.audit.specs.Rivalries.{start_of, rivalry_of}
+use Rattle.audit.specs.Constraints.{writes_to, is_read, last_reads_of}
+use Rattle.audit.specs.Rivalries.{start_of}
 use Rattle.audit.specs.NextSet.{IsNextSet}
 use Rattle.audit.specs.Rows.{row_at}
-use Rattle.audit.specs.Tables.{Audited, runs_in, rivalry_in, below, starts_in, has_numbers, reads_at, IsPlacing}
+use Rattle.audit.specs.Tables.{Audited, runs_in, rivalry_in, starts_in, has_numbers, reads_at, IsPlacing}
 use Rattle.audit.proofs.Keeping.{told, counted}
 use Rattle.audit.proofs.Rivaling.{counts-length}
 use Rattle.audit.proofs.Listed.{placed_there, thread_below}

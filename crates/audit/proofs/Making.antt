@@ -1,5 +1,5 @@
 -- The tables of a search for a placing are made of what was gathered.
-use Rattle.std.proofs.Common.{◌≡◌, ℕ, ◌+◌, ◌-◌, ◌<◌, ◌≤◌, ◌^◌, List, [], length, get_or, map, eqb, refl, sym, ◌∙◌, ap, subst, arith, inl, inr}
+use Rattle.std.proofs.Common.{◌≡◌, ℕ, ◌-◌, ◌<◌, ◌^◌, List, [], length, get_or, map, eqb, sym, ◌∙◌, ap, subst, arith}
 use Rattle.std.specs.Prelude.{Contains, All, Option, option_map}
 use Rattle.std.specs.List.{filter_map, range_with_len, count_by}
 use Rattle.std.proofs.lemmas.List.{length-map, get_or-map, get_or_default}
@@ -8,10 +8,8 @@ use Rattle.light_base.specs.Tags.{HasTag}
 use Rattle.light_base.specs.declared.tag.Event.{Event}
 use Rattle.plain_search.specs.declared.Edge.{Edge}
 use Rattle.replay_model.specs.Steps.{Step}
-use Rattle.replay_model.specs.Logs.{Log, ThreadLog, thread_of}
-use Rattle.replay_model.specs.Histories.{steps_of}
+use Rattle.replay_model.specs.Logs.{Log, ThreadLog}
 use Rattle.replay_model.specs.Orders.{place}
-use Rattle.replay_model.specs.Fitting.{HasWritten}
 use Rattle.replay_model.specs.WellFormed.{IsWellFormed}
 use Rattle.replay_model.proofs.Moves.{in_range}
 use Rattle.replay_model.proofs.RunLogs.{logged_threads, logged_thread}
@@ -28,8 +26,8 @@ use Rattle.replayer.specs.Notes.{AreWrites}
 use Rattle.audit.specs.declared.rows.Mark.{Mark}
 use Rattle.audit.specs.Positions.{placed_list, placed_counts}
 use Rattle.audit.specs.Constraints.{writes_to, base_of}
-use Rattle.audit.specs.Rows.{row_at, AreRows}
-use Rattle.audit.specs.Tables.{HasSteps, placed_entries_in, write_mark, read_mark, starts_in, base_in, AreNexts, Audited, runs_in, AreTheRows, IsPlacing}
+use Rattle.audit.specs.Rows.{AreRows}
+use Rattle.audit.specs.Tables.{HasSteps, placed_entries_in, write_mark, read_mark, base_in, Audited, runs_in, AreTheRows}
 use Rattle.std.specs.Prelude.{Ok}
 use Rattle.std.specs.Global.{Vec}
 use Rattle.audit.specs.declared.placing.Case.{Case}

@@ -1,23 +1,17 @@
 -- The tables of a search for a placing hold what the runs ask for.
-use Rattle.std.proofs.Common.{◌≡◌, ℕ, zero, suc, ◌+◌, ◌<◌, ◌≤◌, ◌^◌, Bool, true, false, cond, eqb, List, [], ◌∷◌, ◌++◌, length, get_or, map, refl, sym, ◌∙◌, ap, subst, arith, inl, inr, ◌⊎◌}
-use Rattle.std.specs.Prelude.{◌≢◌, Contains, All, IfSome, Option, Some, None, option_map}
-use Rattle.std.specs.List.{flat_map, range_with_len, count_by, filter_map}
-use Rattle.std.proofs.lemmas.Bool.{cases_Bool, cases_lt, eq-eqb, ne_eqb, both_ways, cond-true, cond-false}
-use Rattle.std.proofs.lemmas.List.{length-map, get_or-map}
-use Rattle.std.proofs.lemmas.List.Elements.{Contains-get_or, All-contains}
+use Rattle.std.proofs.Common.{◌≡◌, ℕ, ◌<◌, ◌^◌, Bool, true, false, List, [], ◌∷◌, length, get_or, map, refl, sym, ◌∙◌, ap, subst, arith, inl, inr}
+use Rattle.std.specs.Prelude.{Contains, All, IfSome, Some, None, option_map}
+use Rattle.std.specs.List.{filter_map}
+use Rattle.std.proofs.lemmas.Bool.{cond-true, cond-false}
+use Rattle.std.proofs.lemmas.List.Elements.{Contains-get_or}
 use Rattle.light_base.specs.declared.tag.Event.{Event}
 use Rattle.light_base.specs.declared.tag.Tag.{Tag}
 use Rattle.replay_model.specs.declared.Entry.{Entry}
 use Rattle.replay_model.specs.Steps.{Step}
-use Rattle.replay_model.specs.Threads.{Threads, StaysWithin}
 use Rattle.replay_model.specs.Logs.{Log, thread_of, HasEntry, first_event, last_event}
-use Rattle.replay_model.specs.RunLogs.{Tallies}
-use Rattle.replay_model.specs.Fitting.{HasWritten, Fits}
 use Rattle.replay_model.specs.Orders.{place}
 use Rattle.replay_laws.proofs.Skip.{Told}
 use Rattle.replay_laws.proofs.Places.{entry_thread}
-use Rattle.audit_laws.specs.Placings.{IsPlaced}
-use Rattle.audit_laws.proofs.Placed.{written_word}
 use Rattle.constraints.specs.declared.placed.Placed.{Placed}
 use Rattle.constraints.specs.Positions.{thread_numbers}
 use Rattle.constraints.specs.Building.{HasEvents, placed_in}
@@ -30,10 +24,10 @@ use Rattle.audit.specs.declared.rows.Mark.{Mark}
 use Rattle.audit.specs.Positions.{placed_list, placed_at, position_of}
 use Rattle.audit.specs.Constraints.{writes_to, is_read, is_last_of, last_reads_of}
 use Rattle.audit.specs.Rows.{row_at, AreRows}
-use Rattle.audit.specs.Tables.{HasSteps, placed_entries_in, write_mark, read_mark, has_numbers, reads_at, AreTheRows}
+use Rattle.audit.specs.Tables.{HasSteps, placed_entries_in, write_mark, read_mark, has_numbers, reads_at}
 use Rattle.audit.proofs.Listed.{list_before, in_list, at-position, position-at, position-below, of_positions, in_positions, positions-rising}
 use Rattle.audit.proofs.Writes.{read-entry, entry-read, last-entry, entry-last, of_writes, in_writes, writes-rising}
-use Rattle.audit.proofs.Keeping.{told, counted, source_placed, first_placed, last_placed}
+use Rattle.audit.proofs.Keeping.{source_placed, first_placed, last_placed}
 
 -- one answers true exactly where the other does
 same_answers : (a b : Bool) → (a ≡ true → b ≡ true) → (b ≡ true → a ≡ true) → a ≡ b

@@ -1,6 +1,5 @@
-use Rattle.std.proofs.Common.{Ok, subst, ap}
+use Rattle.std.proofs.Common.{Ok, subst}
 use Rattle.replay_model.specs.Logs.{Log}
-use Rattle.light_base.specs.declared.memory.Memory.{Memory}
 use Rattle.order_solver.specs.declared.solving.Answer.{Answer}
 use Rattle.order_solver.specs.declared.solving.Answer.TheVariants as answer
 use Rattle.order_solver.specs.Solving.{Solved}

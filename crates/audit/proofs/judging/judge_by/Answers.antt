@@ -1,8 +1,7 @@
-use Rattle.std.proofs.Common.{List, ◌∙◌, sym, ap, subst}
+use Rattle.std.proofs.Common.{List, ◌∙◌, sym, subst}
 use Rattle.light_base.specs.declared.tag.Event.{Event}
 use Rattle.replay_model.specs.Orders.{Respects}
 use Rattle.replay_model.specs.WellFormed.{IsWellFormed}
-use Rattle.replayer.specs.declared.replay.Replayed.{Replayed}
 use Rattle.replayer.specs.declared.notes.Written.{Written}
 use Rattle.replayer.specs.Notes.{AreWrites}
 use Rattle.replayer.specs.Replays.{replay_by}

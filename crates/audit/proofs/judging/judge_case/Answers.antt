@@ -1,4 +1,4 @@
-use Rattle.std.proofs.Common.{◌≡◌, ◌<◌, ◌^◌, ℕ, List, true, false, Ok, length, sum, map, ◌∙◌, sym, ap, subst}
+use Rattle.std.proofs.Common.{◌≡◌, ◌<◌, ◌^◌, ℕ, List, true, false, Ok, length, map, ◌∙◌, sym, ap, subst}
 use Rattle.std.specs.Prelude.{All}
 use Rattle.light_base.specs.declared.tag.Event.{Event}
 use Rattle.plain_search.specs.Searches.{Solves}
@@ -14,7 +14,7 @@ use Rattle.audit.specs.Judging.{HasThisLog}
 use Rattle.audit.specs.Tables.{Audited, runs_in, rivalry_in, IsPlacing}
 use Rattle.audit.specs.Cases.{case_of}
 use Rattle.audit.proofs.Rivaling.{counts-sum}
-use Rattle.audit.proofs.Judged.{are-rivals, never-legal, none-legal, spent-more, line-legal}
+use Rattle.audit.proofs.Judged.{are-rivals, never-legal, none-legal, line-legal}
 use Rattle.audit.proofs.judging.judge_case.Goals as goal
 
 pub returns-then-is_impossible : goal.returns-then-is_impossible

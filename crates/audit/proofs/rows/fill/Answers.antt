@@ -1,4 +1,4 @@
-use Rattle.audit.proofs.Rowing.{filled-none, filled-more}
+use Rattle.audit.proofs.Rowing.{filled-none}
 use Rattle.audit.proofs.rows.fill.Goals as goal
 
 pub loop-mark-init : goal.loop-mark-init

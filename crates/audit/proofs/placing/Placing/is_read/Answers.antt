@@ -1,4 +1,4 @@
-use Rattle.std.proofs.Common.{◌≡◌, ◌∙◌, subst, eqb, length}
+use Rattle.std.proofs.Common.{◌≡◌, subst, eqb, length}
 use Rattle.audit.specs.Tables.{Audited, IsPlacing}
 use Rattle.audit.proofs.Looking.{read-is}
 use Rattle.audit.proofs.placing.Placing.is_read.Goals as goal

@@ -1,4 +1,4 @@
-use Rattle.std.proofs.Common.{◌≡◌, ℕ, List, ◌<◌, ◌+◌, length, get_or, ◌∙◌, ap, subst, arith}
+use Rattle.std.proofs.Common.{ℕ, List, ◌+◌, length, get_or, ◌∙◌, ap, subst, arith}
 use Rattle.audit.specs.Tables.{Audited, IsPlacing}
 use Rattle.audit.proofs.Looking.{starts-long, start-at, threads-long}
 use Rattle.audit.proofs.placing.PlacingRivals.group.Goals as goal

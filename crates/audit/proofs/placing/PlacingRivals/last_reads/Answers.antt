@@ -1,4 +1,4 @@
-use Rattle.std.proofs.Common.{◌≡◌, ℕ, List, Bool, ◌<◌, eqb, length, get_or, ◌∙◌, sym, ap, subst, arith}
+use Rattle.std.proofs.Common.{◌≡◌, ℕ, List, eqb, length, get_or, ◌∙◌, ap, subst, arith}
 use Rattle.audit.specs.Constraints.{writes_to, last_reads_of}
 use Rattle.audit.specs.Tables.{Audited, runs_in, IsPlacing}
 use Rattle.audit.proofs.Looking.{row-is, write-inside, last-some, last-none}

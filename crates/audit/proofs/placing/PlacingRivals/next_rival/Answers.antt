@@ -1,9 +1,9 @@
-use Rattle.std.proofs.Common.{◌≡◌, ℕ, List, Bool, false, ◌<◌, ◌≤◌, length, get_or, ◌∙◌, sym, ap, subst, arith}
+use Rattle.std.proofs.Common.{◌≡◌, ℕ, List, false, length, get_or, ◌∙◌, sym, ap, subst, arith}
 use Rattle.order_solver.specs.Rivals.{IsNextRival}
 use Rattle.audit.specs.Positions.{placed_at}
 use Rattle.audit.specs.Constraints.{writes_to, is_read}
 use Rattle.audit.specs.Tables.{Audited, runs_in, rivalry_in, IsPlacing}
-use Rattle.audit.proofs.Looking.{row-is, write-inside, next-read, next-past, next-unread, nexts-long}
+use Rattle.audit.proofs.Looking.{row-is, write-inside, next-unread}
 use Rattle.audit.proofs.placing.PlacingRivals.next_rival.Goals as goal
 
 pub is_read-requires : goal.is_read-requires
