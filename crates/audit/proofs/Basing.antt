@@ -1,14 +1,13 @@
 -- The base edges of placings, by positions, and how many steps each thread has.
-use Rattle.std.proofs.Common.{◌≡◌, ℕ, zero, suc, ◌+◌, ◌<◌, ◌≤◌, ◌^◌, Bool, true, false, cond, eqb, List, [], ◌∷◌, ◌++◌, length, get_or, map, refl, sym, ◌∙◌, ap, subst, arith, inl, inr, ◌⊎◌}
+use Rattle.std.proofs.Common.{◌≡◌, ℕ, zero, suc, ◌+◌, ◌<◌, ◌≤◌, Bool, true, false, cond, eqb, List, [], ◌∷◌, ◌++◌, length, get_or, map, refl, sym, ◌∙◌, ap, subst, arith, inl, inr, ◌⊎◌}
 use Rattle.std.specs.Prelude.{◌≢◌, Contains, All, Option, Some, None, option_map}
 use Rattle.std.specs.List.{flat_map, range_with_len, count_by}
-use Rattle.std.proofs.lemmas.Bool.{cases_lt, cases_eq, eq-eqb, ne_eqb}
-use Rattle.std.proofs.lemmas.List.{length-map, get_or-map}
+use Rattle.std.proofs.lemmas.Bool.{cases_Bool, cases_eq, eq-eqb, ne_eqb}
+use Rattle.std.proofs.lemmas.List.{get_or-map}
 use Rattle.std.proofs.lemmas.List.Concat.{flat_map-append}
 use Rattle.std.proofs.lemmas.List.Elements.{Contains-get_or}
 use Rattle.light_base.specs.declared.tag.Event.{Event}
 use Rattle.light_base.specs.declared.tag.Tag.{Tag}
-use Rattle.plain_search.specs.declared.Edge.{Edge}
 use Rattle.replay_model.specs.declared.Entry.{Entry}
 use Rattle.replay_model.specs.Steps.{Step, same_event, same_tag}
 use Rattle.replay_model.specs.Logs.{Log, thread_of, HasEntry, last_tag, last_event}
@@ -23,12 +22,13 @@ use Rattle.constraints.specs.Constraints.{edges_to, edges_from}
 use Rattle.constraints.specs.Building.{placed_in, is_at, placed_source_edges, placed_last_tag_edges, placed_edges}
 use Rattle.constraints.proofs.Members.{contains_here, contains_next, of_flat_map, of_map, of_range}
 use Rattle.constraints.proofs.Listed.{entry_is}
+use Rattle.constraints.proofs.Points.{count-yes, count-no, count-none, count-all}
 use Rattle.audit.specs.Positions.{placed_of_thread, placed_list, placed_counts, position_of}
 use Rattle.audit.specs.Constraints.{writes_to, source_edges, last_tag_edges, entry_edges, word_edges, base_of}
 use Rattle.audit.specs.Rows.{row_at}
 use Rattle.audit.specs.Tables.{placed_entries_in, word_edges_in, base_in}
 use Rattle.audit.proofs.Listed.{of_thread, one_position}
-use Rattle.audit.proofs.Keeping.{source_placed, tag_placed}
+use Rattle.audit.proofs.Keeping.{source_placed}
 
 flat_map-agree : {X Y : Type 0} (f g : X → List Y) (xs : List X) → ((x : X) → Contains xs x → f x ≡ g x) → flat_map f xs ≡ flat_map g xs
 flat_map-agree f g [] h = refl
@@ -49,50 +49,43 @@ flat_map-map f g (x ∷ xs) = ap (λ ys. f (g x) ++ ys) (flat_map-map f g xs)
 -- ---- how many steps each thread has
 
 count-append : {X : Type 0} (p : X → Bool) (xs ys : List X) → count_by p (xs ++ ys) ≡ count_by p xs + count_by p ys
-count-append p [] ys = refl
-count-append p (x ∷ xs) ys = let ih = count-append p xs ys in go (p x) refl ih
+count-append p [] ys = let z : count_by p [] ≡ 0 = refl in omega (arith, z)
+count-append {X} p (x ∷ xs) ys = go (cases_Bool (p x)) (count-append p xs ys)
   where
-    go : (b : Bool) → p x ≡ b → count_by p (xs ++ ys) ≡ count_by p xs + count_by p ys → count_by p (x ∷ xs ++ ys) ≡ count_by p (x ∷ xs) + count_by p ys
-    go true e ih = rw e (omega (arith, ih))
-    go false e ih = rw e ih
-
-count-every : {X : Type 0} (p : X → Bool) (xs : List X) → ((x : X) → Contains xs x → p x ≡ true) → count_by p xs ≡ length xs
-count-every p [] h = refl
-count-every p (x ∷ xs) h =
-    let e = h x (contains_here x xs) in
-    let ih = count-every p xs (λ y c. h y (contains_next x xs y c)) in rw e (omega (arith, ih))
-
-count-none : {X : Type 0} (p : X → Bool) (xs : List X) → ((x : X) → Contains xs x → p x ≡ false) → count_by p xs ≡ 0
-count-none p [] h = refl
-count-none p (x ∷ xs) h = let e = h x (contains_here x xs) in rw e (count-none p xs (λ y c. h y (contains_next x xs y c)))
+    go : (p x ≡ true) ⊎ (p x ≡ false) → count_by p (xs ++ ys) ≡ count_by p xs + count_by p ys → count_by p (x ∷ xs ++ ys) ≡ count_by p (x ∷ xs) + count_by p ys
+    go (inl t) ih = let a = count-yes p x (xs ++ ys) t in let b = count-yes p x xs t in omega (arith, a, b, ih)
+    go (inr t) ih = let a = count-no p x (xs ++ ys) t in let b = count-no p x xs t in omega (arith, a, b, ih)
 
 -- each list has elements with its own number
-count-in : (f : ℕ → List Event) → ((t : ℕ) (e : Event) → Contains (f t) e → e.thread ≡ t) → (u a n : ℕ) →
+abbrev CountsIn : (ℕ → List Event) → ℕ → ℕ → ℕ → Type 0
+CountsIn f u a n =
     ((u < a) → count_by (λ (e : Event). eqb e.thread u) (flat_map f (range_with_len a n)) ≡ 0) ×
     (a ≤ u → u < a + n → count_by (λ (e : Event). eqb e.thread u) (flat_map f (range_with_len a n)) ≡ length (f u))
+
+count-in : (f : ℕ → List Event) → ((t : ℕ) (e : Event) → Contains (f t) e → e.thread ≡ t) → (u a n : ℕ) → CountsIn f u a n
 count-in f own u a zero = (λ l. refl, λ l m. absurd (omega (arith, l, m)))
-count-in f own u a (suc n) = (
-  λ l.
-      let (x, y) = count-in f own u (a + 1) n in
-      let r = x (omega (arith, l)) in
-      let z = count-none (λ (e : Event). eqb e.thread u) (f a) (λ e c. ne_eqb e.thread u (λ q. let o = own a e c in absurd (omega (arith, q, o, l)))) in
-      let s = count-append (λ (e : Event). eqb e.thread u) (f a) (flat_map f (range_with_len (a + 1) n)) in omega (arith, r, z, s),
-  λ l m. go l m (cases_eq a u),
-)
+count-in f own u a (suc n) = go (count-in f own u (a + 1) n)
   where
-    go : a ≤ u → u < a + suc n → (a ≡ u) ⊎ (a ≡ u → ⊥) → count_by (λ (e : Event). eqb e.thread u) (f a ++ flat_map f (range_with_len (a + 1) n)) ≡ length (f u)
-    go l m (inl q) =
-        let (x, y) = count-in f own u (a + 1) n in
-        let r = x (omega (arith, q)) in
-        let z = count-every (λ (e : Event). eqb e.thread u) (f a) (λ e c. eq-eqb e.thread u (own a e c ∙ q)) in
-        let s = count-append (λ (e : Event). eqb e.thread u) (f a) (flat_map f (range_with_len (a + 1) n)) in
-        let k : length (f a) ≡ length (f u) = ap (λ (t : ℕ). length (f t)) q in omega (arith, r, z, s, k)
-    go l m (inr n') =
-        let (x, y) = count-in f own u (a + 1) n in
-        let b : a + 1 ≤ u = omega (arith, l, n') in
-        let r = y b (omega (arith, m)) in
-        let z = count-none (λ (e : Event). eqb e.thread u) (f a) (λ e c. ne_eqb e.thread u (λ q. n' (sym (own a e c) ∙ q))) in
-        let s = count-append (λ (e : Event). eqb e.thread u) (f a) (flat_map f (range_with_len (a + 1) n)) in omega (arith, r, z, s)
+    go : CountsIn f u (a + 1) n → CountsIn f u a (suc n)
+    go (x, y) = (
+      λ l.
+          let r = x (omega (arith, l)) in
+          let z = count-none (λ (e : Event). eqb e.thread u) (f a) (λ e c. ne_eqb e.thread u (λ q. let o = own a e c in absurd (omega (arith, q, o, l)))) in
+          let s = count-append (λ (e : Event). eqb e.thread u) (f a) (flat_map f (range_with_len (a + 1) n)) in omega (arith, r, z, s),
+      λ l m. at l m (cases_eq a u),
+    )
+      where
+        at : a ≤ u → u < a + suc n → (a ≡ u) ⊎ (a ≡ u → ⊥) → count_by (λ (e : Event). eqb e.thread u) (f a ++ flat_map f (range_with_len (a + 1) n)) ≡ length (f u)
+        at l m (inl q) =
+            let r = x (omega (arith, q)) in
+            let z = count-all (λ (e : Event). eqb e.thread u) (f a) (λ e c. eq-eqb e.thread u (own a e c ∙ q)) in
+            let s = count-append (λ (e : Event). eqb e.thread u) (f a) (flat_map f (range_with_len (a + 1) n)) in
+            let k : length (f a) ≡ length (f u) = ap (λ (t : ℕ). length (f t)) q in omega (arith, r, z, s, k)
+        at l m (inr ne) =
+            let b : a + 1 ≤ u = omega (arith, l, ne) in
+            let r = y b (omega (arith, m)) in
+            let z = count-none (λ (e : Event). eqb e.thread u) (f a) (λ e c. ne_eqb e.thread u (λ q. ne (sym (own a e c) ∙ q))) in
+            let s = count-append (λ (e : Event). eqb e.thread u) (f a) (flat_map f (range_with_len (a + 1) n)) in omega (arith, r, z, s)
 
 module _ (initial : List ℕ) (log : Log) (runs : List (List Step)) (told : Told initial log runs) (counted : length log.threads ≡ length runs) where
   pub counts-are : map (λ t. count_by (λ (e : Event). eqb e.thread t) (placed_list log runs)) (range_with_len 0 (length log.threads)) ≡ placed_counts log runs
@@ -156,7 +149,7 @@ module _ (initial : List ℕ) (log : Log) (runs : List (List Step)) (told : Told
     tags-ask =
         ap (λ (n : ℕ). flat_map (λ word. word_edges_in (row_at sources word) (get_or last_tags word None)) (range_with_len 0 n)) words ∙
         flat_map-agree (λ word. word_edges_in (row_at sources word) (get_or last_tags word None)) (λ word. word_edges log runs word (last_tag log word)) (range_with_len 0 (length log.last_tags))
-        (λ word c. let (l, m) = of_range 0 (length log.last_tags) word c in tag-asks word m)
+        (λ word c. let (l, m) = of_range 0 (length log.last_tags) word c in tag-asks word (omega (arith, m)))
 
     pub base-is : base_in sources last_tags (placed_entries_in (placed_list log runs) log) ≡ base_of log runs
     unfolding base_of

@@ -9,8 +9,11 @@ mod Thinning
 mod Reading
 mod Gathered
 mod Rivaling
+mod Judged
+mod Looking
+mod Making
 mod Filling
-pub mod Rowing
-pub mod Tabling
-pub mod Basing
+mod Rowing
+mod Tabling
+mod Basing
 mod WorkedExamples

@@ -60,15 +60,15 @@ alone : (log : Log) (runs : List (List Step)) (s : ℕ) → is_read log (placed_
 unfolding last_reads_of
 alone log runs s r = cond-false (is_read log (placed_at log runs s)) _ (s ∷ []) r
 
-counts-length : (log : Log) (runs : List (List Step)) → length (placed_counts log runs) ≡ length log.threads
+pub counts-length : (log : Log) (runs : List (List Step)) → length (placed_counts log runs) ≡ length log.threads
 unfolding placed_counts
 counts-length log runs = length-map _ _ ∙ length-range_with_len 0 (length log.threads)
 
-counts-sum : (log : Log) (runs : List (List Step)) → sum (placed_counts log runs) ≡ length (placed_list log runs)
+pub counts-sum : (log : Log) (runs : List (List Step)) → sum (placed_counts log runs) ≡ length (placed_list log runs)
 unfolding placed_counts placed_list
 counts-sum log runs = sum-map (λ t. length (placed_of_thread log runs t)) (thread_numbers log) ∙ sym (length-flat_map (placed_of_thread log runs) (thread_numbers log))
 
-writes-length : (log : Log) (runs : List (List Step)) (word : ℕ) → length (writes_to log runs word) ≤ length (placed_list log runs)
+pub writes-length : (log : Log) (runs : List (List Step)) (word : ℕ) → length (writes_to log runs word) ≤ length (placed_list log runs)
 unfolding writes_to
 writes-length log runs word =
     let test : ℕ → Bool = λ p. is_write_to runs word (placed_at log runs p) in

@@ -1,23 +1,17 @@
 -- The tables of a search for a placing hold what the runs ask for.
-use Rattle.std.proofs.Common.{◌≡◌, ℕ, zero, suc, ◌+◌, ◌<◌, ◌≤◌, ◌^◌, Bool, true, false, cond, eqb, List, [], ◌∷◌, ◌++◌, length, get_or, map, refl, sym, ◌∙◌, ap, subst, arith, inl, inr, ◌⊎◌}
-use Rattle.std.specs.Prelude.{◌≢◌, Contains, All, IfSome, Option, Some, None, option_map}
-use Rattle.std.specs.List.{flat_map, range_with_len, count_by, filter_map}
-use Rattle.std.proofs.lemmas.Bool.{cases_Bool, cases_lt, eq-eqb, ne_eqb, both_ways, cond-true, cond-false}
-use Rattle.std.proofs.lemmas.List.{length-map, get_or-map}
-use Rattle.std.proofs.lemmas.List.Elements.{Contains-get_or, All-contains}
+use Rattle.std.proofs.Common.{◌≡◌, ℕ, ◌<◌, ◌^◌, Bool, true, false, List, [], ◌∷◌, length, get_or, map, refl, sym, ◌∙◌, ap, subst, arith, inl, inr}
+use Rattle.std.specs.Prelude.{Contains, All, IfSome, Some, None, option_map}
+use Rattle.std.specs.List.{filter_map}
+use Rattle.std.proofs.lemmas.Bool.{cond-true, cond-false}
+use Rattle.std.proofs.lemmas.List.Elements.{Contains-get_or}
 use Rattle.light_base.specs.declared.tag.Event.{Event}
 use Rattle.light_base.specs.declared.tag.Tag.{Tag}
 use Rattle.replay_model.specs.declared.Entry.{Entry}
 use Rattle.replay_model.specs.Steps.{Step}
-use Rattle.replay_model.specs.Threads.{Threads, StaysWithin}
 use Rattle.replay_model.specs.Logs.{Log, thread_of, HasEntry, first_event, last_event}
-use Rattle.replay_model.specs.RunLogs.{Tallies}
-use Rattle.replay_model.specs.Fitting.{HasWritten, Fits}
 use Rattle.replay_model.specs.Orders.{place}
 use Rattle.replay_laws.proofs.Skip.{Told}
 use Rattle.replay_laws.proofs.Places.{entry_thread}
-use Rattle.audit_laws.specs.Placings.{IsPlaced}
-use Rattle.audit_laws.proofs.Placed.{written_word}
 use Rattle.constraints.specs.declared.placed.Placed.{Placed}
 use Rattle.constraints.specs.Positions.{thread_numbers}
 use Rattle.constraints.specs.Building.{HasEvents, placed_in}
@@ -30,16 +24,22 @@ use Rattle.audit.specs.declared.rows.Mark.{Mark}
 use Rattle.audit.specs.Positions.{placed_list, placed_at, position_of}
 use Rattle.audit.specs.Constraints.{writes_to, is_read, is_last_of, last_reads_of}
 use Rattle.audit.specs.Rows.{row_at, AreRows}
-use Rattle.audit.specs.Tables.{HasSteps, placed_entries_in, write_mark, read_mark, has_numbers, reads_at, AreTheRows}
+use Rattle.audit.specs.Tables.{HasSteps, placed_entries_in, write_mark, read_mark, has_numbers, reads_at}
 use Rattle.audit.proofs.Listed.{list_before, in_list, at-position, position-at, position-below, of_positions, in_positions, positions-rising}
 use Rattle.audit.proofs.Writes.{read-entry, entry-read, last-entry, entry-last, of_writes, in_writes, writes-rising}
-use Rattle.audit.proofs.Keeping.{told, counted, source_placed, first_placed, last_placed}
+use Rattle.audit.proofs.Keeping.{source_placed, first_placed, last_placed}
 
 -- one answers true exactly where the other does
 same_answers : (a b : Bool) → (a ≡ true → b ≡ true) → (b ≡ true → a ≡ true) → a ≡ b
 same_answers true b f g = sym (f refl)
 same_answers false true f g = g refl
 same_answers false false f g = refl
+
+abbrev mark : ℕ → ℕ → Mark
+mark row number = record { row = row; number = number }
+
+one : (a b : Mark) → Some a ≡ Some b → a ≡ b
+one a b h = cc
 
 has-some : (xs : List ℕ) (n : ℕ) → Contains xs n → has_numbers xs ≡ true
 has-some [] n c = absurd (contains_none n c)
@@ -145,11 +145,11 @@ module _ (initial : List ℕ) (log : Log) (runs : List (List Step)) (told : Told
       by t a h a.source refl (let P : Placed → Type 0 = λ y. read_mark y ≡ Some (record { row = s; number = n }) in subst P (sym r) q)
     where
       by : (t : ℕ) (a : Entry) → HasEntry log t a → (tag : Tag) → a.source ≡ tag →
-          option_map (λ source. record { row = source; number = position_of log runs (last_event t a) }) (option_map (place (placed_list log runs)) tag) ≡ Some (record { row = s; number = n }) →
+          option_map {U = Mark} (λ source. record { row = source; number = position_of log runs (last_event t a) }) (option_map (place (placed_list log runs)) tag) ≡ Some (record { row = s; number = n }) →
           (t : ℕ) × (a : Entry) × (x : Event) × HasEntry log t a × (a.source ≡ Some x) × (position_of log runs x ≡ s) × (position_of log runs (last_event t a) ≡ n)
       by t a h None q e = cc e
       by t a h (Some x) q e =
-          let m : record { row = position_of log runs x; number = position_of log runs (last_event t a) } ≡ record { row = s; number = n } = cc e in
+          let m : mark (position_of log runs x) (position_of log runs (last_event t a)) ≡ mark s n = one (mark (position_of log runs x) (position_of log runs (last_event t a))) (mark s n) e in
           (t, a, x, h, q, ap (λ (m : Mark). m.row) m, ap (λ (m : Mark). m.number) m)
 
   in-mark : (t : ℕ) (a : Entry) (x : Event) → HasEntry log t a → a.source ≡ Some x → Contains marks (record { row = position_of log runs x; number = position_of log runs (last_event t a) })
@@ -158,7 +158,7 @@ module _ (initial : List ℕ) (log : Log) (runs : List (List Step)) (told : Told
       in_filter_map read_mark (placed_entries_in (placed_list log runs) log) (placed_in (placed_list log runs) t a) (record { row = position_of log runs x; number = position_of log runs (last_event t a) })
       (in_flat_map (λ t. map (placed_in (placed_list log runs) t) (thread_of log t).entries) (thread_numbers log) t (placed_in (placed_list log runs) t a) (in_range 0 (length log.threads) t (omega arith) (omega (arith, l)))
       (in_map (placed_in (placed_list log runs) t) (thread_of log t).entries a h))
-      (ap (λ (tag : Tag). option_map (λ source. record { row = source; number = position_of log runs (last_event t a) }) (option_map (place (placed_list log runs)) tag)) q)
+      (ap (λ (tag : Tag). option_map {U = Mark} (λ source. record { row = source; number = position_of log runs (last_event t a) }) (option_map (place (placed_list log runs)) tag)) q)
 
   pub marks-inside : (marked : List Mark) → marked ≡ marks → All (λ (mark : Mark). mark.row < length (placed_list log runs)) marked
   marks-inside marked e k d l =

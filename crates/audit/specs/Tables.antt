@@ -19,8 +19,8 @@ use Rattle.replayer.specs.declared.notes.Written.{Written}
 use Rattle.replayer.specs.Replays.{replay_by}
 use Rattle.audit.specs.declared.rows.Mark.{Mark}
 use Rattle.audit.specs.Positions.{placed_list, placed_counts, placed_at, positions_where}
-use Rattle.audit.specs.Constraints.{writes_to, is_read, is_last_of, base_of}
-use Rattle.audit.specs.Rivalries.{start_of, rivalry_of}
+use Rattle.audit.specs.Constraints.{writes_to, is_last_of, base_of}
+use Rattle.audit.specs.Rivalries.{rivalry_of}
 use Rattle.audit.specs.NextSet.{AreNextSet}
 use Rattle.audit.specs.Rows.{row_at}
 

@@ -1,5 +1,5 @@
 // How many steps each thread has, and where its writes begin among those of a word; and which write was read next.
-ghost use Rattle.std.specs.Prelude.{◌≡◌, ◌+◌, ◌<◌, ◌≤◌, ◌^◌, ◌==◌, All, IfOk, length, map, slice_index_or};
+ghost use Rattle.std.specs.Prelude.{◌≡◌, ℕ, ◌+◌, ◌<◌, ◌≤◌, ◌^◌, ◌==◌, All, IfOk, length, map};
 ghost use Rattle.std.specs.List.{count_by, range_with_len};
 ghost use Rattle.audit.specs.Tables.{below, starts_in, has_numbers, read_flags, AreNexts};
 ghost use Rattle.audit.specs.Rows.{row_at};
