@@ -3,7 +3,6 @@ pub mod Ending
 pub mod Continuing
 pub mod Headline
 pub mod Sizes
-pub mod Prints
 pub mod Replaying
 pub mod ArenaEnds
 pub mod Pieces

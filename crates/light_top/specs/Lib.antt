@@ -3,7 +3,8 @@ pub mod Words
 pub mod Statuses
 pub mod Images
 pub mod Logs
-pub mod Prints
+pub mod Lists
+pub mod Batches
 pub mod Given
 pub mod Outputs
 pub mod Solving

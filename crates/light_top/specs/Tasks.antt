@@ -21,7 +21,9 @@ use Rattle.light_top.specs.Images.{ImageValue}
 use Rattle.light_top.specs.Outputs.{Output, printed, printed_and_saved, saved}
 use Rattle.light_top.specs.declared.task.Task.{Task}
 use Rattle.light_top.specs.declared.task.Task.TheVariants as task
-use Rattle.light_top.specs.Logs.{logged_print, image_print}
+use Rattle.batch.specs.Prints.{logged_print}
+use Rattle.light_top.specs.Logs.{image_print}
+use Rattle.light_top.specs.Batches.{AreTold}
 use Rattle.light_top.specs.Arenas.{IsArenaEnd, Endless}
 use Rattle.light_top.specs.Solving.{Unsolved, Unreplayed, IsDisrespectful, IsSolved, IsReplayed}
 use Rattle.light_top.specs.Stopping.{IsSnapText, Unstopped}
@@ -98,6 +100,8 @@ Means (task.Races log) output = output ≡ printed (races_text most_pairs log)
 -- how the thread stands right after its step, in the play up to the step's cut by an order that respects the log
 Means (task.Until image log thread step budget) output =
     IsImage image.bytes image.program × IsSnapText image.program log thread step output.text × (output ≡ printed output.text)
+-- what becomes of each job
+Means (task.Batch jobs budget workers) output = (text : List ℕ) × AreTold budget jobs text × (output ≡ printed text)
 -- the summary of the arena, by the values at the end of one whole history of it
 Means (task.Arena number) output = (values : List ℕ) × IsArenaEnd (arena_of number) values × (output ≡ printed (summary_of number values))
 

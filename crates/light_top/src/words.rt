@@ -1,8 +1,8 @@
 // The words of the command line.
 ghost use Rattle.std.specs.Prelude.{◌≡◌, ◌<◌, ◌^◌};
-ghost use Rattle.light_top.specs.Words.{is_plain, number_of, any_number_of, name_of, limits_of, inputs_of, crew_of, form_of, texts, run_of, record_of, asm_of, list_of, show_of, upgrade_of, check_of, solve_of, replay_of, races_of, until_of, arena_of_words, command_of};
+ghost use Rattle.light_top.specs.Words.{is_plain, number_of, any_number_of, name_of, limits_of, inputs_of, crew_of, form_of, texts, run_of, record_of, asm_of, list_of, show_of, upgrade_of, check_of, solve_of, replay_of, races_of, until_of, workers_of, batch_of, arena_of_words, command_of};
 
-use crate::crew::Crew;
+use crate::crew::{Crew, Workers};
 use machine::Limits;
 use std::marker::Model;
 
@@ -118,6 +118,12 @@ pub enum Command<'a> {
         thread: u8,
         step: u32,
         budget: u32,
+    },
+    /// Replays many logs on so many workers, and prints what becomes of each.
+    Batch {
+        list: Name<'a>,
+        budget: u32,
+        workers: Workers,
     },
     /// Records an arena program, and replays it.
     Arena {
@@ -343,6 +349,25 @@ fn until<'a>(words: &'a [String]) -> Option<Command<'a>>
     }
 }
 
+fn workers(word: &str) -> Option<Workers>
+    ensures { result ≡ workers_of word.now }
+{
+    Workers::new(number(word, MOST_WORKERS)? as u8)
+}
+
+fn batch<'a>(words: &'a [String]) -> Option<Command<'a>>
+    ensures { result ≡ batch_of (texts words.now) }
+{
+    match words {
+        [list, budget, workers_word] => Some(Command::Batch {
+            list: Name::of(list.as_str())?,
+            budget: any_number(budget.as_str())?,
+            workers: workers(workers_word.as_str())?,
+        }),
+        _ => None,
+    }
+}
+
 fn arena<'a>(words: &'a [String]) -> Option<Command<'a>>
     ensures { result ≡ arena_of_words (texts words.now) }
 {
@@ -371,6 +396,7 @@ pub fn read_command<'a>(words: &'a [String]) -> Option<Command<'a>>
             "replay" => replay(rest),
             "races" => races(rest),
             "until" => until(rest),
+            "batch" => batch(rest),
             "arena" => arena(rest),
             _ => None,
         },
