@@ -6,3 +6,4 @@ pub mod Sizes
 pub mod Replaying
 pub mod ArenaEnds
 pub mod Pieces
+pub mod Listing

@@ -46,7 +46,12 @@ pairs_from number (line ∷ lines) = do
   pairs ← pairs_from (number + 1) lines
   Ok (pair ∷ pairs)
 
+abbrev pub some_pairs : List Pair → Result (List Pair) Status
+some_pairs [] = Err (status.ListRefused 1)
+some_pairs (pair ∷ pairs) = Ok (pair ∷ pairs)
+
 -- the pairs of a list of 1 to 64 lines, or its first line at fault
 abbrev pub as_list : List ℕ → Result (List Pair) Status
-as_list [] = Err (status.ListRefused 1)
-as_list (b ∷ bs) = pairs_from 1 (lines_of (b ∷ bs))
+as_list text = do
+  pairs ← pairs_from 1 (lines_of text)
+  some_pairs pairs

@@ -56,13 +56,6 @@ pub fn judge_jobs<R: Threads + Sync, G: Gate>(
 ) -> Result<Bytes, Memory>
     ensures { IfOk result (AreTold budget jobs.now) }
 {
-    let verdicts = batch(
-        rt,
-        alloc,
-        jobs.as_slice(),
-        budget,
-        workers.count(),
-        gate,
-    )?;
+    let verdicts = batch(rt, alloc, jobs.as_slice(), budget, workers.count(), gate)?;
     Ok(Bytes::of(verdicts_text(alloc, &verdicts)?))
 }

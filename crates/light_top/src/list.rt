@@ -40,7 +40,7 @@ fn listed_name<'a>(bytes: &'a [u8]) -> Option<Name<'a>>
 }
 
 // The two names of a line.
-fn pair<'a>(line: &'a [u8]) -> Option<Pair<'a>>
+fn pair_in<'a>(line: &'a [u8]) -> Option<Pair<'a>>
     ensures { result ≡ pair_of line.now }
 {
     let space = line.iter().position(|b| *b == b' ')?;
@@ -56,7 +56,9 @@ pub fn read_list<'a>(alloc: Global, text: &'a [u8]) -> Result<Vec<Pair<'a>>, Sta
     ensures some { IfOk result (λ pairs. 1 ≤ length pairs.items) }
     ensures few { IfOk result (λ pairs. length pairs.items ≤ most_jobs) }
 {
-    let mut pairs = Vec::with_capacity(alloc, MOST_JOBS as usize)?;
+    let Ok(mut pairs) = Vec::with_capacity(alloc, MOST_JOBS as usize) else {
+        return Err(Status::Memory);
+    };
     let mut line: u32 = 1;
     let mut rest = text;
     while !rest.is_empty() {
@@ -64,10 +66,10 @@ pub fn read_list<'a>(alloc: Global, text: &'a [u8]) -> Result<Vec<Pair<'a>>, Sta
         if line > MOST_JOBS {
             return Err(Status::ListRefused { line });
         }
-        let Some(pair) = pair(bytes) else {
+        let Some(pair) = pair_in(bytes) else {
             return Err(Status::ListRefused { line });
         };
-        pairs.push(pair)?;
+        pairs.push_reserved(pair);
         line += 1;
         rest = after;
     }

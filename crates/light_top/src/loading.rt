@@ -267,19 +267,17 @@ fn load_job<S: Store>(alloc: Global, store: &mut S, pair: &Pair<'_>) -> Result<J
 }
 
 /// The jobs whose files these are, pair after pair, in each the image before the log.
-pub fn load_jobs<S: Store>(
-    alloc: Global,
-    store: &mut S,
-    pairs: &[Pair<'_>],
-) -> Result<Jobs, Status>
+pub fn load_jobs<S: Store>(alloc: Global, store: &mut S, pairs: &[Pair<'_>]) -> Result<Jobs, Status>
     requires some { 1 ≤ length pairs.now }
     requires few { length pairs.now ≤ most_jobs }
     ensures ok { IfOk result (Gives (S.told store.old) (S.told store.new) (λ files. jobs_in files pairs.now)) }
     ensures err { IfErr result (NotGiven (S.told store.old) (S.told store.new) (λ files. jobs_in files pairs.now)) }
 {
-    let mut jobs = Vec::with_capacity(alloc, pairs.len())?;
+    let Ok(mut jobs) = Vec::with_capacity(alloc, pairs.len()) else {
+        return Err(Status::Memory);
+    };
     for pair in pairs {
-        jobs.push(load_job(alloc, store, pair)?)?;
+        jobs.push_reserved(load_job(alloc, store, pair)?);
     }
     Ok(Jobs::of(jobs))
 }

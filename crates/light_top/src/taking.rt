@@ -6,10 +6,11 @@ ghost use Rattle.light_top.specs.declared.words.Command.TheVariants as command;
 
 use crate::Status;
 use crate::crew::{Crew, Workers};
-use crate::loading::{
-    load, load_image, load_inputs, load_jobs, load_log, load_old, load_order, load_text, of_program, with_step,
-};
 use crate::list::read_list;
+use crate::loading::{
+    load, load_image, load_inputs, load_jobs, load_log, load_old, load_order, load_text,
+    of_program, with_step,
+};
 use crate::task::Task;
 use crate::words::{Command, Name};
 use light_base::Store;

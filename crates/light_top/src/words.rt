@@ -36,7 +36,7 @@ impl<'a> Model for Name<'a> {
 }
 
 impl<'a> Name<'a> {
-    fn of(text: &'a str) -> Option<Name<'a>>
+    pub fn of(text: &'a str) -> Option<Name<'a>>
         ensures { result ≡ name_of text.now }
     {
         if text.is_empty() {
