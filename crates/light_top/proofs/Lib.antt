@@ -7,3 +7,4 @@ pub mod Replaying
 pub mod ArenaEnds
 pub mod Pieces
 pub mod Listing
+pub mod JobsLoaded

@@ -3,6 +3,7 @@ pub mod Words
 pub mod Statuses
 pub mod Images
 pub mod Logs
+pub mod Pairs
 pub mod Lists
 pub mod Batches
 pub mod Given

@@ -1,8 +1,10 @@
 // Lists of jobs: which images and logs they name.
-ghost use Rattle.std.specs.Prelude.{◌≡◌, ◌≤◌, ◌<◌, IfOk, IfErr, Ok, length};
+ghost use Rattle.std.specs.Prelude.{◌≡◌, ◌≤◌, ◌<◌, IfOk, IfErr, IfSome, Ok, length};
+ghost use Rattle.std.specs.List.{list_all, position};
 ghost use Rattle.light_top.specs.Given.{NotRead};
 ghost use Rattle.batch.specs.Jobs.{most_jobs};
-ghost use Rattle.light_top.specs.Lists.{as_list, is_visible, is_space, listed_name, pair_of};
+ghost use Rattle.light_top.specs.Pairs.{is_visible, is_space, listed_name, pair_of};
+ghost use Rattle.light_top.specs.Lists.{as_list};
 
 use crate::Status;
 use crate::words::Name;
@@ -26,11 +28,17 @@ fn is_visible(b: u8) -> bool
     33 <= b && b <= 126
 }
 
+fn are_visible(bytes: &[u8]) -> bool
+    ensures { result ≡ list_all is_visible bytes.now }
+{
+    bytes.iter().all(|b| is_visible(*b))
+}
+
 // The name that these bytes of a list are.
 fn listed_name<'a>(bytes: &'a [u8]) -> Option<Name<'a>>
     ensures { result ≡ listed_name bytes.now }
 {
-    if !bytes.iter().all(|b| is_visible(*b)) {
+    if !are_visible(bytes) {
         return None;
     }
     match str::from_utf8(bytes) {
@@ -39,13 +47,20 @@ fn listed_name<'a>(bytes: &'a [u8]) -> Option<Name<'a>>
     }
 }
 
+fn space_in(line: &[u8]) -> Option<usize>
+    ensures value { result ≡ position is_space line.now }
+    ensures within { IfSome result (λ space. space < length line.now) }
+{
+    line.iter().position(|b| *b == b' ')
+}
+
 // The two names of a line.
 fn pair_in<'a>(line: &'a [u8]) -> Option<Pair<'a>>
     ensures { result ≡ pair_of line.now }
 {
-    let space = line.iter().position(|b| *b == b' ')?;
-    let image = listed_name(&line[..space])?;
-    let log = listed_name(&line[space + 1..])?;
+    let space = space_in(line)?;
+    let image = listed_name(line.split_at(space).0)?;
+    let log = listed_name(line.split_at(space + 1).1)?;
     Some(Pair { image, log })
 }
 
