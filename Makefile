@@ -33,7 +33,7 @@ install:
 	sed 's|^\.ds share .*|.ds share $(share)|' docs/light.1 | install -m 644 /dev/stdin '$(top)/share/man/man1/light.1'
 	install -m 644 examples/*.* '$(DESTDIR)$(share)/examples'
 	install -m 644 examples/litmus/* '$(DESTDIR)$(share)/examples/litmus'
-	install -m 755 examples/catch '$(DESTDIR)$(share)/examples'
+	install -m 755 examples/catch examples/replay-all '$(DESTDIR)$(share)/examples'
 	install -m 755 tools/catch tools/inputs tools/litmus '$(DESTDIR)$(share)/tools'
 
 uninstall:

@@ -18,5 +18,6 @@ mod words;
 
 pub use asm_fault::{AsmFault, AsmKind};
 pub use laws::{computed_texts, text_laws};
+pub use lines::split_line;
 pub use listing::list;
 pub use text::assemble;

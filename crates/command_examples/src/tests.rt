@@ -4,6 +4,7 @@ use light_top::{OpenGate, Status, light, status_text};
 use std::test::Fail;
 
 mod arenas;
+mod batches;
 mod contents;
 mod cuts;
 mod faults;
@@ -83,6 +84,8 @@ fn commands_of_logs_end_as_told(rt: HostRuntime) -> Result<(), Fail> {
         replays::STOPPED.as_slice(),
         stops::SHOWN.as_slice(),
         stops::STOPPED.as_slice(),
+        batches::DONE_BY_ALL.as_slice(),
+        batches::STOPPED.as_slice(),
     ] {
         for row in table {
             check(&rt, alloc, row)?;
@@ -223,6 +226,18 @@ fn threads_pass_the_gate(rt: HostRuntime) -> Result<(), Fail> {
         gates::pass(&rt, alloc, row)?;
     }
     Ok(())
+}
+
+#[test]
+fn logs_are_replayed_on_workers(rt: HostRuntime) -> Result<(), Fail> {
+    let alloc = rt.alloc();
+    for (list, status) in &batches::REFUSED {
+        batches::refuse(&rt, alloc, *list, status)?;
+    }
+    for (count, workers, ends) in &batches::PARTS {
+        batches::share(&rt, alloc, *count, *workers, ends)?;
+    }
+    batches::replay_arenas(&rt, alloc)
 }
 
 #[test]

@@ -3,7 +3,8 @@ pub mod Ending
 pub mod Continuing
 pub mod Headline
 pub mod Sizes
-pub mod Prints
 pub mod Replaying
 pub mod ArenaEnds
 pub mod Pieces
+pub mod Listing
+pub mod JobsLoaded

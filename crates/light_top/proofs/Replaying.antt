@@ -5,7 +5,8 @@ use Rattle.light_base.specs.FileMap.{Files}
 use Rattle.replay_model.specs.Logs.{Log}
 use Rattle.history.specs.HistoryLogs.{HistoryRunsFit, HistoryEventsRespect}
 use Rattle.light_top.specs.Images.{ImageValue}
-use Rattle.light_top.specs.Logs.{logged_print, image_print}
+use Rattle.batch.specs.Prints.{logged_print}
+use Rattle.light_top.specs.Logs.{image_print}
 use Rattle.light_top.specs.Given.{◌>>=◌, log_in, of_program, given}
 use Rattle.light_top.specs.Statuses.{IsFailure}
 use Rattle.light_top.specs.Outputs.{Output, Saved}
@@ -24,7 +25,7 @@ use Rattle.light_top.specs.declared.status.Status.{Status}
 use Rattle.light_top.specs.declared.status.Status.TheVariants as status
 use Rattle.light_top.proofs.Sizes.{log_threads, log_words}
 use Rattle.light_top.proofs.Ending.{not_refused, of_task, each_file}
-use Rattle.light_top.proofs.Prints.{is-same}
+use Rattle.batch.proofs.Prints.{is-same}
 
 module _ (fit : HistoryRunsFit) (respect : HistoryEventsRespect) (files : Files) (image name schedule : List ℕ) (budget : ℕ) (had : HasHistory files image name) where
   abbrev log : Log

@@ -5,6 +5,13 @@ use Rattle.std.specs.Prelude.{ℕ, ◌≤◌, nat_lt, ◌&&◌, Option, Some, No
 abbrev pub most_workers : ℕ
 most_workers = 15
 
+-- some workers, and no more than there may be
+abbrev pub AreWorkers : ℕ → Type 0
+AreWorkers workers = (1 ≤ workers) × (workers ≤ most_workers)
+
+abbrev pub workers_or_none : ℕ → Option ℕ
+workers_or_none workers = if nat_lt 0 workers then Some workers else None
+
 -- so many workers, and so many memory steps of a thread in its turn
 pub record CrewValue : Type 0 where
   pub workers : ℕ

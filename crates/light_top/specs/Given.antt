@@ -1,5 +1,5 @@
 -- What the files say of a command: the task that is to be done, or what stands in the way first.
-use Rattle.std.specs.Prelude.{◌≡◌, ℕ, ◌+◌, nat_lt, nat_le, ◌==◌, IsTrue, List, [], length, replicate, Option, None, Some, Result, Ok, Err, IfSome, if◌then◌else◌}
+use Rattle.std.specs.Prelude.{◌≡◌, ℕ, ◌+◌, nat_lt, nat_le, ◌==◌, IsTrue, List, [], ◌∷◌, length, replicate, Option, None, Some, Result, Ok, Err, IfSome, if◌then◌else◌}
 use Rattle.std.specs.FinMap.{get}
 use Rattle.light_base.specs.Causes.{Rose}
 use Rattle.light_base.specs.FileMap.{Files}
@@ -9,9 +9,12 @@ use Rattle.machine.specs.Inputs.{InputsValue}
 use Rattle.light_top.specs.Images.{ImageValue, as_image, as_text, as_inputs}
 use Rattle.replay_model.specs.Logs.{Log, thread_of}
 use Rattle.light_base.specs.declared.tag.Event.{Event}
-use Rattle.light_top.specs.Logs.{as_log, as_old_log, as_order, logged_print, image_print}
-use Rattle.light_top.specs.Prints.{same_print}
-use Rattle.light_top.specs.Statuses.{most_bytes, IsRefusal}
+use Rattle.light_top.specs.Logs.{as_log, as_old_log, as_order, image_print}
+use Rattle.batch.specs.Prints.{logged_print, same_print}
+use Rattle.batch.specs.Jobs.{JobValue, job_of, most_bytes}
+use Rattle.light_top.specs.Lists.{as_list}
+use Rattle.light_top.specs.Statuses.{IsRefusal}
+use Rattle.light_top.specs.declared.list.Pair.{Pair}
 use Rattle.light_top.specs.declared.words.Command.{Command}
 use Rattle.light_top.specs.declared.words.Command.TheVariants as command
 use Rattle.light_top.specs.declared.task.Task.{Task}
@@ -76,6 +79,25 @@ with_step thread step log =
     if nat_lt thread (length log.threads) then (if nat_le step (thread_of log thread).steps then Ok log else Err (status.NoStep (length log.threads) (thread_of log thread).steps))
     else Err (status.NoStep (length log.threads) 0)
 
+-- the pairs of the list in the file of that name
+abbrev pub list_in : Files → List ℕ → Result (List Pair) Status
+list_in files name = file_in files name >>= as_list
+
+-- the bytes of the files that a pair names
+abbrev pub job_in : Files → Pair → Result JobValue Status
+job_in files pair = do
+  image ← file_in files pair.image
+  log ← file_in files pair.log
+  Ok (job_of image log)
+
+-- those of each pair, one after the other
+abbrev pub jobs_in : Files → List Pair → Result (List JobValue) Status
+jobs_in files [] = Ok []
+jobs_in files (pair ∷ pairs) = do
+  job ← job_in files pair
+  jobs ← jobs_in files pairs
+  Ok (job ∷ jobs)
+
 -- the task of a command
 abbrev pub given : Command → Files → Result Task Status
 given (command.Run image limits inputs) files = do
@@ -124,6 +146,10 @@ given (command.Audit image log budget) files = do
   l ← log_in files log
   own ← of_program i l
   Ok (task.Audit i own budget)
+given (command.Batch list budget workers) files = do
+  pairs ← list_in files list
+  jobs ← jobs_in files pairs
+  Ok (task.Batch jobs budget workers)
 given (command.Arena number) files = Ok (task.Arena number)
 
 -- ---- what is answered of this

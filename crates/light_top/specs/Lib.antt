@@ -3,7 +3,9 @@ pub mod Words
 pub mod Statuses
 pub mod Images
 pub mod Logs
-pub mod Prints
+pub mod Pairs
+pub mod Lists
+pub mod Batches
 pub mod Given
 pub mod Outputs
 pub mod Solving

@@ -1,6 +1,5 @@
 -- Logs and schedules that are read, and what tells the program of a log.
-use Rattle.std.specs.Prelude.{ℕ, List, length, Result, Ok, Err}
-use Rattle.sha2.specs.Sha256.{sha256}
+use Rattle.std.specs.Prelude.{ℕ, List, Result, Ok, Err}
 use Rattle.light_base.specs.declared.tag.Event.{Event}
 use Rattle.replay_model.specs.Logs.{Log}
 use Rattle.log_file.specs.declared.log_fault.LogFault.{LogFault}
@@ -8,7 +7,8 @@ use Rattle.log_file.specs.Readings.{log_today, log_of_old}
 use Rattle.log_file.specs.declared.sched_fault.SchedFault.{SchedFault}
 use Rattle.log_file.specs.Schedules.{schedule_read}
 use Rattle.light_top.specs.Images.{ImageValue}
-use Rattle.light_top.specs.declared.print.Print.{Print}
+use Rattle.batch.specs.declared.print.Print.{Print}
+use Rattle.batch.specs.Prints.{print_of_image}
 use Rattle.light_top.specs.declared.status.Status.{Status}
 use Rattle.light_top.specs.declared.status.Status.TheVariants as status
 
@@ -32,9 +32,6 @@ order_or_fault (Err fault) = Err (status.SchedRefused fault)
 abbrev pub as_order : List ℕ → Result (List Event) Status
 as_order bytes = order_or_fault (schedule_read bytes)
 
--- what a log says of its program, and what an image is
-abbrev pub logged_print : Log → Print
-logged_print log = record { digest = log.digest; words = length log.last_tags; threads = length log.threads }
-
+-- what an image is, which a log says of its own
 abbrev pub image_print : ImageValue → Print
-image_print image = record { digest = sha256 image.bytes; words = length image.program.words; threads = length image.program.threads }
+image_print image = print_of_image image.bytes image.program

@@ -14,6 +14,7 @@ use Rattle.log_file.specs.Schedules.{number_of_kind as number_of_sched_kind}
 use Rattle.schedule_check.specs.Faults.{number_of as number_of_order_kind}
 use Rattle.stopper.specs.declared.stray.Stray.{Stray}
 use Rattle.stopper.specs.Strays.{AreUnlike, straying}
+use Rattle.batch.specs.Jobs.{most_bytes}
 use Rattle.light_top.specs.declared.status.Status.{Status}
 use Rattle.light_top.specs.declared.status.Status.TheVariants as status
 
@@ -38,6 +39,7 @@ code_of (status.WrongInputs program inputs) = 16
 code_of status.NotLegal = 17
 code_of (status.NoStep threads steps) = 18
 code_of (status.Strays stray) = 19
+code_of (status.ListRefused line) = 20
 code_of status.Memory = 70
 
 -- an image was refused: kind K thread T at A
@@ -73,6 +75,10 @@ difference_line thread entry = codes "light: differs" ++ (codes " thread " ++ de
 abbrev pub stray_line : Stray → List ℕ
 stray_line stray = codes "light: strays" ++ (codes " thread " ++ decimal (straying stray)) ++ 10 ∷ []
 
+-- a list was refused: line L
+abbrev pub list_line : ℕ → List ℕ
+list_line line = codes "light: list refused" ++ (codes " line " ++ decimal line) ++ 10 ∷ []
+
 -- what is told of a status
 abbrev pub status_line : Status → List ℕ
 status_line status.Ok = []
@@ -94,11 +100,8 @@ status_line (status.WrongInputs program inputs) = codes "light: wrong inputs" ++
 status_line status.NotLegal = codes "light: not legal" ++ 10 ∷ []
 status_line (status.NoStep threads steps) = codes "light: no such step" ++ 10 ∷ []
 status_line (status.Strays stray) = stray_line stray
+status_line (status.ListRefused line) = list_line line
 status_line status.Memory = codes "light: out of memory" ++ 10 ∷ []
-
--- the most bytes of a file that is loaded
-abbrev pub most_bytes : ℕ
-most_bytes = 8388608
 
 -- the statuses with which files are refused, and what they carry
 abbrev pub IsRefusal : Status → Type 0
@@ -110,6 +113,7 @@ IsRefusal (status.WrongInputs program inputs) = program ≢ inputs
 IsRefusal (status.LogRefused fault) = fault.kind ≢ log_kind.Memory
 IsRefusal (status.WrongProgram logged found) = logged ≢ found
 IsRefusal (status.NoStep threads steps) = Unit {0}
+IsRefusal (status.ListRefused line) = Unit {0}
 IsRefusal (status.SchedRefused fault) = fault.kind ≢ sched_kind.Memory
 IsRefusal s = ⊥
 

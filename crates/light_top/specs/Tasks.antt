@@ -21,7 +21,9 @@ use Rattle.light_top.specs.Images.{ImageValue}
 use Rattle.light_top.specs.Outputs.{Output, printed, printed_and_saved, saved}
 use Rattle.light_top.specs.declared.task.Task.{Task}
 use Rattle.light_top.specs.declared.task.Task.TheVariants as task
-use Rattle.light_top.specs.Logs.{logged_print, image_print}
+use Rattle.batch.specs.Prints.{logged_print}
+use Rattle.light_top.specs.Logs.{image_print}
+use Rattle.light_top.specs.Batches.{AreTold}
 use Rattle.light_top.specs.Arenas.{IsArenaEnd, Endless}
 use Rattle.light_top.specs.Solving.{Unsolved, Unreplayed, IsDisrespectful, IsSolved, IsReplayed}
 use Rattle.light_top.specs.Stopping.{IsSnapText, Unstopped}
@@ -103,6 +105,8 @@ Means (task.Until image log thread step budget) output =
 -- that the log is that of a whole history of the program, and how many steps this history has
 Means (task.Audit image log budget) output =
     IsImage image.bytes image.program × IsLegalText image.program log output.text × (output ≡ printed output.text)
+-- what becomes of each job
+Means (task.Batch jobs budget workers) output = (text : List ℕ) × AreTold budget jobs text × (output ≡ printed text)
 -- the summary of the arena, by the values at the end of one whole history of it
 Means (task.Arena number) output = (values : List ℕ) × IsArenaEnd (arena_of number) values × (output ≡ printed (summary_of number values))
 

@@ -5,7 +5,7 @@ use Rattle.std.specs.Str.{bytes_eq}
 use Rattle.std.specs.Str.Parse.{digits_value}
 use Rattle.replay_model.specs.Bounds.{most_entries}
 use Rattle.machine.specs.Programs.{LimitsValue, most_steps, most_instr}
-use Rattle.light_top.specs.Crews.{CrewValue, most_workers, crew_or_none}
+use Rattle.light_top.specs.Crews.{CrewValue, most_workers, crew_or_none, workers_or_none}
 use Rattle.light_top.specs.declared.words.Command.{Command}
 use Rattle.light_top.specs.declared.words.Command.TheVariants as command
 
@@ -185,6 +185,21 @@ audit_of (image ∷ log ∷ budget ∷ []) = do
   Some (command.Audit image log budget)
 audit_of _ = None
 
+-- WORKERS
+abbrev pub workers_of : List ℕ → Option ℕ
+workers_of word = do
+  workers ← number_of most_workers word
+  workers_or_none workers
+
+-- LIST BUDGET WORKERS
+abbrev pub batch_of : List (List ℕ) → Option Command
+batch_of (list ∷ budget ∷ workers ∷ []) = do
+  list ← name_of list
+  budget ← any_number_of budget
+  workers ← workers_of workers
+  Some (command.Batch list budget workers)
+batch_of _ = None
+
 -- NUMBER
 abbrev pub arena_of_words : List (List ℕ) → Option Command
 arena_of_words (number ∷ []) = do
@@ -208,5 +223,6 @@ command_of (verb ∷ rest) =
     else if bytes_eq verb (codes "races") then races_of rest
     else if bytes_eq verb (codes "until") then until_of rest
     else if bytes_eq verb (codes "audit") then audit_of rest
+    else if bytes_eq verb (codes "batch") then batch_of rest
     else if bytes_eq verb (codes "arena") then arena_of_words rest
     else None

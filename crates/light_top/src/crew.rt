@@ -1,6 +1,6 @@
-// Which workers run the threads of a program.
+// Which workers run the threads of a program, and how many do the jobs of a batch.
 ghost use Rattle.std.specs.Prelude.{◌≡◌, ◌<◌, ◌≤◌, ◌^◌};
-ghost use Rattle.light_top.specs.Crews.{IsCrew, most_workers, crew_or_none};
+ghost use Rattle.light_top.specs.Crews.{AreWorkers, IsCrew, most_workers, crew_or_none, workers_or_none};
 
 use std::marker::Model;
 
@@ -46,5 +46,43 @@ impl Crew {
         ensures rules { IsCrew self.now }
     {
         self.slice
+    }
+}
+
+/// A number of workers, 1 to 15.
+#[derive(Drop)]
+pub struct Workers {
+    number: u8,
+}
+
+impl Model for Workers {
+    ghost use Rattle.std.specs.Prelude.{ℕ};
+    ghost use Rattle.light_top.specs.Crews.{AreWorkers};
+
+    ghost Value = { ℕ };
+
+    ghost view = { λ w. w.number };
+
+    ghost invariant = { λ w. AreWorkers w.number };
+}
+
+impl Workers {
+    /// None exactly where the number is 0.
+    pub fn new(number: u8) -> Option<Workers>
+        requires few { number ≤ most_workers }
+        ensures { result ≡ workers_or_none number }
+    {
+        if number > 0 {
+            Some(Workers { number })
+        } else {
+            None
+        }
+    }
+
+    pub fn count(&self) -> u8
+        ensures value { result ≡ self.now }
+        ensures rules { AreWorkers self.now }
+    {
+        self.number
     }
 }

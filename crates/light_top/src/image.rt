@@ -5,9 +5,8 @@ ghost use Rattle.light_top.specs.Given.{NotRead};
 
 use crate::Status;
 use crate::bytes::Bytes;
-use crate::print::Print;
-use log_file::digest_of;
-use machine::{ImageFault, ImageKind, Program, read_image};
+use batch::{Print, program_in};
+use machine::Program;
 use std::alloc::Global;
 use std::marker::Model;
 
@@ -38,14 +37,8 @@ impl Image {
         ensures ok { IfOk result (λ image. as_image bytes ≡ Ok image) }
         ensures err { IfErr result (NotRead (as_image bytes)) }
     {
-        match read_image(alloc, bytes.as_slice()) {
+        match program_in(alloc, bytes.as_slice())? {
             Ok(program) => Ok(Image { bytes, program }),
-            Err(
-                ImageFault {
-                    kind: ImageKind::Memory,
-                    ..
-                },
-            ) => Err(Status::Memory),
             Err(fault) => Err(Status::ImageRefused(fault)),
         }
     }
@@ -68,10 +61,6 @@ impl Image {
     pub fn fingerprint(&self) -> Print
         ensures { result ≡ image_print self.now }
     {
-        Print {
-            digest: digest_of(self.bytes.as_slice()),
-            words: self.program.words().len() as u16,
-            threads: self.program.threads_count() as u8,
-        }
+        Print::of_image(self.bytes.as_slice(), &self.program)
     }
 }

@@ -1,29 +1,32 @@
 // What the files of a command are read as, before anything is done.
 ghost use Rattle.std.specs.Prelude.{◌≡◌, ◌<◌, ◌^◌, ◌≤◌, length, Ok, IfOk, IfErr};
 ghost use Rattle.replay_model.specs.Logs.{thread_of};
-ghost use Rattle.light_top.specs.Statuses.{most_bytes};
+ghost use Rattle.batch.specs.Jobs.{IsShort, most_bytes, most_jobs};
 ghost use Rattle.light_top.specs.Images.{as_text, as_inputs};
-ghost use Rattle.light_top.specs.Logs.{as_log, as_old_log, as_order, logged_print, image_print};
-ghost use Rattle.light_top.specs.Given.{file_in, image_in, text_in, numbers_in, inputs_in, matched, log_in, old_log_in, order_in, of_program, with_step, Gives, NotRead, NotGiven};
+ghost use Rattle.light_top.specs.Logs.{as_log, as_old_log, as_order, image_print};
+ghost use Rattle.batch.specs.Prints.{logged_print};
+ghost use Rattle.light_top.specs.Given.{file_in, image_in, text_in, numbers_in, inputs_in, matched, log_in, old_log_in, order_in, of_program, with_step, job_in, jobs_in, Gives, NotRead, NotGiven};
 
 use crate::Status;
 use crate::bytes::Bytes;
 use crate::image::Image;
+use crate::jobs::Jobs;
+use crate::list::Pair;
 use crate::order::Order;
-use crate::print::logged_print;
 use crate::words::Name;
 use assembler::{AsmFault, AsmKind, assemble};
+use batch::{Job, Print, todays_log_in};
 use dep_log::RunLog;
 use light_base::{Memory, Store, StoreFault};
-use log_file::{LogFault, LogKind, SchedFault, SchedKind, read_log, read_old, read_schedule};
+use log_file::{LogFault, LogKind, SchedFault, SchedKind, read_old, read_schedule};
 use machine::{InputFault, InputKind, Inputs, Program, read_inputs};
 use std::alloc::Global;
 
 /// The most bytes of a file that is loaded.
 const MOST_BYTES: u64 = 8_388_608;
 
-// The whole bytes of a file. The files stay as they are.
-fn load<S: Store>(alloc: Global, store: &mut S, name: &Name<'_>) -> Result<Bytes, Status>
+/// The whole bytes of a file. The files stay as they are.
+pub fn load<S: Store>(alloc: Global, store: &mut S, name: &Name<'_>) -> Result<Bytes, Status>
     ensures ok { IfOk result (Gives (S.told store.old) (S.told store.new) (λ files. file_in files name.now)) }
     ensures err { IfErr result (NotGiven (S.told store.old) (S.told store.new) (λ files. file_in files name.now)) }
     ensures short { IfOk result (λ bytes. length bytes ≤ most_bytes) }
@@ -146,14 +149,8 @@ fn read_today(alloc: Global, bytes: &[u8]) -> Result<RunLog, Status>
     ensures ok { IfOk result (λ log. as_log bytes.now ≡ Ok log) }
     ensures err { IfErr result (NotRead (as_log bytes.now)) }
 {
-    match read_log(alloc, bytes) {
+    match todays_log_in(alloc, bytes)? {
         Ok(log) => Ok(log),
-        Err(
-            LogFault {
-                kind: LogKind::Memory,
-                ..
-            },
-        ) => Err(Status::Memory),
         Err(fault) => Err(Status::LogRefused(fault)),
     }
 }
@@ -229,7 +226,7 @@ pub fn of_program(image: &Image, log: RunLog) -> Result<RunLog, Status>
     ensures same { IfOk result (λ own. logged_print own ≡ image_print image.now) }
     ensures err { IfErr result (NotRead (of_program image.now log)) }
 {
-    let logged = logged_print(&log);
+    let logged = Print::of_log(&log);
     let found = image.fingerprint();
     if logged.is(&found) {
         Ok(log)
@@ -256,4 +253,31 @@ pub fn with_step(thread: u8, step: u32, log: RunLog) -> Result<RunLog, Status>
     } else {
         Err(Status::NoStep { threads, steps })
     }
+}
+
+// The job whose files these are.
+fn load_job<S: Store>(alloc: Global, store: &mut S, pair: &Pair<'_>) -> Result<Job, Status>
+    ensures ok { IfOk result (Gives (S.told store.old) (S.told store.new) (λ files. job_in files pair.now)) }
+    ensures err { IfErr result (NotGiven (S.told store.old) (S.told store.new) (λ files. job_in files pair.now)) }
+    ensures short { IfOk result IsShort }
+{
+    let image = load(alloc, store, &pair.image)?;
+    let log = load(alloc, store, &pair.log)?;
+    Ok(Job::of(image.into_vec(), log.into_vec()))
+}
+
+/// The jobs whose files these are, pair after pair, in each the image before the log.
+pub fn load_jobs<S: Store>(alloc: Global, store: &mut S, pairs: &[Pair<'_>]) -> Result<Jobs, Status>
+    requires some { 1 ≤ length pairs.now }
+    requires few { length pairs.now ≤ most_jobs }
+    ensures ok { IfOk result (Gives (S.told store.old) (S.told store.new) (λ files. jobs_in files pairs.now)) }
+    ensures err { IfErr result (NotGiven (S.told store.old) (S.told store.new) (λ files. jobs_in files pairs.now)) }
+{
+    let Ok(mut jobs) = Vec::with_capacity(alloc, pairs.len()) else {
+        return Err(Status::Memory);
+    };
+    for pair in pairs {
+        jobs.push_reserved(load_job(alloc, store, pair)?);
+    }
+    Ok(Jobs::of(jobs))
 }

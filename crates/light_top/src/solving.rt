@@ -1,8 +1,8 @@
 // Orders of a log's events: found, checked, written down, and played by.
 ghost use Rattle.std.specs.Prelude.{◌≡◌, length, IfOk, IfErr};
-ghost use Rattle.replay_model.specs.Orders.{Respects};
 ghost use Rattle.order_solver.specs.Solving.{IsFound};
-ghost use Rattle.light_top.specs.Solving.{Unsolved, events_line, order_file, IsTranscript, Differing};
+ghost use Rattle.batch.specs.Replays.{IsTranscript};
+ghost use Rattle.light_top.specs.Solving.{Unsolved, Unreplayed, events_line, order_file};
 ghost use Rattle.light_top.specs.Statuses.{FailsBy};
 
 use crate::Status;
@@ -10,23 +10,20 @@ use crate::bytes::Bytes;
 use crate::order::Order;
 use crate::output::{Output, Saved};
 use crate::words::Name;
-use constraints::Problem;
+use batch::{Outcome, replay};
 use dep_log::RunLog;
-use light_base::{Event, Memory, put_decimal};
+use light_base::{Memory, put_decimal};
 use log_file::write_schedule;
 use machine::Program;
-use order_solver::{Answer, solve};
-use replayer::{Replayed, replay_order};
+use order_solver::Answer;
 use std::alloc::Global;
-use transcript::text_of;
 
 /// An order that respects the log, found with at most so many dead ends.
 pub fn find_order(alloc: Global, log: &RunLog, budget: u32) -> Result<Order, Status>
     ensures ok { IfOk result (λ order. IsFound log.now order) }
     ensures err { IfErr result (FailsBy (Unsolved log.now budget)) }
 {
-    let problem = Problem::of(alloc, log)?;
-    match solve(alloc, &problem, budget)? {
+    match batch::find_order(alloc, log, budget)? {
         Answer::Found(events) => Ok(Order::of(events)),
         Answer::NoSchedule => Err(Status::NoSchedule),
         Answer::Spent => Err(Status::Spent),
@@ -63,21 +60,23 @@ pub fn with_order<'a>(
     })
 }
 
-/// The transcript of the program's runs that have the log, as a replay by the order finds them.
-pub fn replay_text(
+/// Such an order, and the transcript of the program's runs that have the log.
+pub fn find_runs(
     alloc: Global,
     program: &Program,
     log: &RunLog,
-    order: &[Event],
-) -> Result<Bytes, Status>
+    budget: u32,
+) -> Result<(Order, Bytes), Status>
     requires threads { length program.now.threads ≡ length log.now.threads }
     requires words { length program.now.words ≡ length log.now.last_tags }
-    requires order { Respects log.now order.now }
-    ensures ok { IfOk result (IsTranscript program.now log.now) }
-    ensures err { IfErr result (FailsBy (Differing program.now log.now)) }
+    ensures order { IfOk result (λ found. IsFound log.now found.0) }
+    ensures text { IfOk result (λ found. IsTranscript program.now log.now found.1) }
+    ensures err { IfErr result (FailsBy (Unreplayed program.now log.now budget)) }
 {
-    match replay_order(alloc, program, log, order)? {
-        Replayed::Same(reports, values) => Ok(Bytes::of(text_of(alloc, &reports, &values)?)),
-        Replayed::Differs(difference) => Err(Status::Differs(difference)),
+    match replay(alloc, program, log, budget)? {
+        Outcome::Same { order, text } => Ok((Order::of(order), Bytes::of(text))),
+        Outcome::Differs(difference) => Err(Status::Differs(difference)),
+        Outcome::NoSchedule => Err(Status::NoSchedule),
+        Outcome::Spent => Err(Status::Spent),
     }
 }

@@ -1,9 +1,9 @@
 // How a command ends, as a number and as a line of text.
 ghost use Rattle.std.specs.Prelude.{◌≡◌, IfOk, OnOk, ◌∷◌, [], ◌++◌, decimal, codes};
-ghost use Rattle.light_top.specs.Statuses.{code_of, status_line, refusal_line, text_line, input_line, log_line, schedule_line, order_line, difference_line, stray_line};
+ghost use Rattle.light_top.specs.Statuses.{code_of, status_line, refusal_line, text_line, input_line, log_line, schedule_line, order_line, difference_line, stray_line, list_line};
 
-use crate::print::Print;
 use assembler::AsmFault;
+use batch::Print;
 use light_base::{Memory, put_decimal};
 use log_file::{LogFault, SchedFault};
 use machine::{ImageFault, InputFault};
@@ -55,6 +55,8 @@ pub enum Status {
     /// No runs of the program have the log, and this is what was amiss first in a play up to the cut of a step, by an
     /// order that respects the log.
     Strays(Stray),
+    /// The text is no list of jobs, and this is its first line at fault.
+    ListRefused { line: u32 },
     /// A request for memory was refused.
     Memory,
 }
@@ -84,6 +86,7 @@ impl Status {
             Status::NotLegal => 17,
             Status::NoStep { .. } => 18,
             Status::Strays(_) => 19,
+            Status::ListRefused { .. } => 20,
             Status::Memory => 70,
         }
     }
@@ -195,6 +198,15 @@ fn put_stray(text: &mut Vec<u8>, stray: &Stray) -> Result<(), Memory>
     Ok(())
 }
 
+fn put_list_refusal(text: &mut Vec<u8>, line: u64) -> Result<(), Memory>
+    ensures { OnOk result (text.new.items ≡ text.old.items ++ list_line line) }
+{
+    text.extend_from_slice(b"light: list refused")?;
+    put_field(text, b" line ", line)?;
+    text.push(b'\n')?;
+    Ok(())
+}
+
 /// The line that tells of a status, with its line feed. Of `Ok` nothing is told.
 pub fn status_text(alloc: Global, status: &Status) -> Result<Vec<u8>, Memory>
     ensures { IfOk result (λ text. text.items ≡ status_line status.now) }
@@ -245,6 +257,7 @@ pub fn status_text(alloc: Global, status: &Status) -> Result<Vec<u8>, Memory>
         Status::NotLegal => text.extend_from_slice(b"light: not legal\n")?,
         Status::NoStep { .. } => text.extend_from_slice(b"light: no such step\n")?,
         Status::Strays(stray) => put_stray(&mut text, stray)?,
+        Status::ListRefused { line } => put_list_refusal(&mut text, u64::from(*line))?,
         Status::Memory => text.extend_from_slice(b"light: out of memory\n")?,
     }
     Ok(text)

@@ -5,9 +5,11 @@ ghost use Rattle.light_top.specs.Given.{given, Gives, NotGiven};
 ghost use Rattle.light_top.specs.declared.words.Command.TheVariants as command;
 
 use crate::Status;
-use crate::crew::Crew;
+use crate::crew::{Crew, Workers};
+use crate::list::read_list;
 use crate::loading::{
-    load_image, load_inputs, load_log, load_old, load_order, load_text, of_program, with_step,
+    load, load_image, load_inputs, load_jobs, load_log, load_old, load_order, load_text,
+    of_program, with_step,
 };
 use crate::task::Task;
 use crate::words::{Command, Name};
@@ -235,6 +237,28 @@ fn take_audit<'a, S: Store>(
     Ok(Task::Audit { image, log, budget })
 }
 
+// To replay the logs of a list.
+fn take_batch<'a, S: Store>(
+    alloc: Global,
+    store: &mut S,
+    list: Name<'a>,
+    budget: u32,
+    workers: Workers,
+) -> Result<Task<'a>, Status>
+    ensures ok { IfOk result (Gives (S.told store.old) (S.told store.new) (given (command.Batch list.entry budget workers))) }
+    ensures err { IfErr result (NotGiven (S.told store.old) (S.told store.new) (given (command.Batch list.entry budget workers))) }
+    ensures matched { IfOk result IsMatched }
+{
+    let text = load(alloc, store, &list)?;
+    let pairs = read_list(alloc, text.as_slice())?;
+    let jobs = load_jobs(alloc, store, &pairs)?;
+    Ok(Task::Batch {
+        jobs,
+        budget,
+        workers,
+    })
+}
+
 /// Loads what a command names, and reads it: the task that is to be done. The files stay as they are.
 pub fn take_up<'a, S: Store>(
     alloc: Global,
@@ -283,6 +307,11 @@ pub fn take_up<'a, S: Store>(
             budget,
         } => take_until(alloc, store, image, log, thread, step, budget),
         Command::Audit { image, log, budget } => take_audit(alloc, store, image, log, budget),
+        Command::Batch {
+            list,
+            budget,
+            workers,
+        } => take_batch(alloc, store, list, budget, workers),
         Command::Arena { number } => Ok(Task::Arena { number }),
     }
 }

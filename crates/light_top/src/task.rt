@@ -1,7 +1,8 @@
 // Tasks: what is done of values alone, once all that a command names was loaded and read.
 ghost use Rattle.std.specs.Prelude.{◌≡◌, length, IfOk, IfErr, ◌<◌, ◌^◌};
 ghost use Rattle.replay_model.specs.Orders.{Respects};
-ghost use Rattle.light_top.specs.Logs.{logged_print, image_print};
+ghost use Rattle.batch.specs.Prints.{logged_print};
+ghost use Rattle.light_top.specs.Logs.{image_print};
 ghost use Rattle.light_top.specs.Solving.{IsSolved, IsReplayed, IsDisrespectful, Unsolved, Unreplayed};
 ghost use Rattle.light_top.specs.Statuses.{FailsBy};
 ghost use Rattle.light_top.specs.Tasks.{IsMatched, IsOfHistory, IsRecording, Means, Fails, rounds_text, respects_line, recording, most_pairs};
@@ -11,11 +12,12 @@ use crate::Status;
 use crate::arenas::play_arena;
 use crate::auditing::audit_log;
 use crate::bytes::Bytes;
-use crate::crew::Crew;
+use crate::crew::{Crew, Workers};
 use crate::image::Image;
+use crate::jobs::{Jobs, judge_jobs};
 use crate::order::Order;
 use crate::output::{Output, Saved};
-use crate::solving::{count_text, find_order, replay_text, with_order};
+use crate::solving::{count_text, find_order, find_runs, with_order};
 use crate::stopping::stop_log;
 use crate::words::Name;
 use constraints::Problem;
@@ -105,6 +107,12 @@ pub enum Task<'a> {
         image: Image,
         log: RunLog,
         budget: u32,
+    },
+    /// To replay logs, and to print what becomes of each.
+    Batch {
+        jobs: Jobs,
+        budget: u32,
+        workers: Workers,
     },
     /// To record an arena and to replay it.
     Arena {
@@ -249,8 +257,7 @@ fn replay_log<'a>(
     ensures ok { IfOk result (IsReplayed image.now.program log.now schedule.entry) }
     ensures err { IfErr result (FailsBy (Unreplayed image.now.program log.now budget)) }
 {
-    let order = find_order(alloc, log, budget)?;
-    let text = replay_text(alloc, image.program(), log, order.as_slice())?;
+    let (order, text) = find_runs(alloc, image.program(), log, budget)?;
     Ok(with_order(alloc, log, &order, schedule, text)?)
 }
 
@@ -337,6 +344,14 @@ pub fn perform<'a, R: Threads + Sync, G: Gate>(
         }
         Task::Audit { image, log, budget } => {
             let text = audit_log(alloc, image.program(), &log, budget)?;
+            Ok(Output { text, saved: None })
+        }
+        Task::Batch {
+            jobs,
+            budget,
+            workers,
+        } => {
+            let text = judge_jobs(rt, alloc, gate, &jobs, budget, &workers)?;
             Ok(Output { text, saved: None })
         }
         Task::Arena { number } => {

@@ -1,8 +1,8 @@
 // The words of the command line.
 ghost use Rattle.std.specs.Prelude.{◌≡◌, ◌<◌, ◌^◌};
-ghost use Rattle.light_top.specs.Words.{is_plain, number_of, any_number_of, name_of, limits_of, inputs_of, crew_of, form_of, texts, run_of, record_of, asm_of, list_of, show_of, upgrade_of, check_of, solve_of, replay_of, races_of, until_of, audit_of, arena_of_words, command_of};
+ghost use Rattle.light_top.specs.Words.{is_plain, number_of, any_number_of, name_of, limits_of, inputs_of, crew_of, form_of, texts, run_of, record_of, asm_of, list_of, show_of, upgrade_of, check_of, solve_of, replay_of, races_of, until_of, audit_of, workers_of, batch_of, arena_of_words, command_of};
 
-use crate::crew::Crew;
+use crate::crew::{Crew, Workers};
 use machine::Limits;
 use std::marker::Model;
 
@@ -36,7 +36,7 @@ impl<'a> Model for Name<'a> {
 }
 
 impl<'a> Name<'a> {
-    fn of(text: &'a str) -> Option<Name<'a>>
+    pub fn of(text: &'a str) -> Option<Name<'a>>
         ensures { result ≡ name_of text.now }
     {
         if text.is_empty() {
@@ -124,6 +124,12 @@ pub enum Command<'a> {
         image: Name<'a>,
         log: Name<'a>,
         budget: u32,
+    },
+    /// Replays many logs on so many workers, and prints what becomes of each.
+    Batch {
+        list: Name<'a>,
+        budget: u32,
+        workers: Workers,
     },
     /// Records an arena program, and replays it.
     Arena {
@@ -362,6 +368,25 @@ fn audit<'a>(words: &'a [String]) -> Option<Command<'a>>
     }
 }
 
+fn workers(word: &str) -> Option<Workers>
+    ensures { result ≡ workers_of word.now }
+{
+    Workers::new(number(word, MOST_WORKERS)? as u8)
+}
+
+fn batch<'a>(words: &'a [String]) -> Option<Command<'a>>
+    ensures { result ≡ batch_of (texts words.now) }
+{
+    match words {
+        [list, budget, workers_word] => Some(Command::Batch {
+            list: Name::of(list.as_str())?,
+            budget: any_number(budget.as_str())?,
+            workers: workers(workers_word.as_str())?,
+        }),
+        _ => None,
+    }
+}
+
 fn arena<'a>(words: &'a [String]) -> Option<Command<'a>>
     ensures { result ≡ arena_of_words (texts words.now) }
 {
@@ -391,6 +416,7 @@ pub fn read_command<'a>(words: &'a [String]) -> Option<Command<'a>>
             "races" => races(rest),
             "until" => until(rest),
             "audit" => audit(rest),
+            "batch" => batch(rest),
             "arena" => arena(rest),
             _ => None,
         },

@@ -13,6 +13,8 @@ pub enum Content {
     Sized(&'static str, usize),
     // These bytes, so many zeros, and these bytes.
     Wide(&'static str, usize, &'static str),
+    // A text so many times, and then a text.
+    Repeated(&'static str, usize, &'static str),
     // A text, and then so many outputs, which count from 0.
     Counted(&'static str, u32),
     // The schedule of these events, each told as `thread:step`, with a space between two.
@@ -120,6 +122,14 @@ pub fn bytes_of(alloc: Global, content: Content) -> Result<Vec<u8>, AllocError> 
             let mut bytes = bytes_of_digits(alloc, head)?;
             bytes.resize(bytes.len().saturating_add(zeros), 0)?;
             bytes.extend_from_slice(&bytes_of_digits(alloc, tail)?)?;
+            Ok(bytes)
+        }
+        Content::Repeated(text, count, tail) => {
+            let mut bytes = Vec::new(alloc);
+            for _ in 0..count {
+                bytes.extend_from_slice(&bytes_of_text(alloc, text)?)?;
+            }
+            bytes.extend_from_slice(&bytes_of_text(alloc, tail)?)?;
             Ok(bytes)
         }
         Content::Counted(text, count) => {

@@ -25,11 +25,16 @@ const STANDS: Content = Content::Text(
     "thread 0 step 1 instr 2/r0 0/r1 7/r2 0/r3 0/r4 0/r5 0/r6 0/r7 0/r8 0/r9 0/r10 0/r11 0/r12 0/r13 0/r14 0/r15 0/run 0 1/",
 );
 
+// The SHA-256 of the transcript.
+const BOTH_SAME: Content = Content::Text(
+    "1 same 3b7e69fb77a5684fe5a27f40e8043798cd80ed88d516a119f5dad18553ba175d/2 same 3b7e69fb77a5684fe5a27f40e8043798cd80ed88d516a119f5dad18553ba175d/",
+);
+
 // The only order of the two steps.
 const ORDER: Content = Content::Hex("4c534331 00000002 10000001 10000002");
 
 // Commands that are done, each with the number of its calls.
-pub static COMMANDS: [(Row, u64); 12] = [
+pub static COMMANDS: [(Row, u64); 13] = [
     (
         Row {
             words: "run i 100 100 100",
@@ -131,6 +136,19 @@ pub static COMMANDS: [(Row, u64); 12] = [
             ..DONE
         },
         2,
+    ),
+    (
+        Row {
+            words: "batch t 0 2",
+            files: &[
+                ("t", Content::Text("i l/i l/")),
+                ("i", OWN_WRITE_READ),
+                ("l", OWN_WRITE_READ_LOG),
+            ],
+            text: BOTH_SAME,
+            ..DONE
+        },
+        5,
     ),
     (
         Row {

@@ -1,7 +1,9 @@
 // Programs that are recorded under a gate, which holds calls until others were made: they come only where threads run side by
 // side.
-use super::contents::{Content, TWO_FLAGS, bytes_of};
+use super::batches::TOLD;
+use super::contents::{Content, OWN_WRITE_READ, SMALLEST, TWO_FLAGS, bytes_of};
 use super::histories::EXCHANGES;
+use super::recordings::OWN_WRITE_READ_LOG;
 use super::rows::{call, call_under, store_of};
 use light_top::Gate;
 use std::alloc::{AllocError, Global};
@@ -61,7 +63,7 @@ const FLAGS_ARE_MET: Gated = Gated {
     },
 };
 
-pub static GATED: [Gated; 6] = [
+pub static GATED: [Gated; 7] = [
     // Two threads that wait for each other end only where both run: one after the other, the first would take all its steps.
     FLAGS_ARE_MET,
     Gated {
@@ -97,6 +99,18 @@ pub static GATED: [Gated; 6] = [
         printed: Printed::Text(Content::Text(
             "thread 0 halted steps 1 instr 2/thread 1 halted steps 3 instr 4/out 0/word 0 1/",
         )),
+    },
+    // Each of two workers does one of two jobs.
+    Gated {
+        words: "batch t 0 2",
+        files: &[
+            ("t", Content::Text("i k/j k/")),
+            ("i", OWN_WRITE_READ),
+            ("j", SMALLEST),
+            ("k", OWN_WRITE_READ_LOG),
+        ],
+        holds: &[((0, 1), (1, 2)), ((1, 2), (0, 1))],
+        printed: Printed::Text(TOLD),
     },
     Gated {
         words: "arena 7",

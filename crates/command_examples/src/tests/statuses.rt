@@ -13,7 +13,7 @@ const NO_PRINT: Print = Print {
     threads: 1,
 };
 
-pub fn statuses() -> [(Status, u8, &'static str); 19] {
+pub fn statuses() -> [(Status, u8, &'static str); 20] {
     [
         (Status::Ok, 0, ""),
         (Status::Usage, 2, "light: usage/"),
@@ -127,6 +127,11 @@ pub fn statuses() -> [(Status, u8, &'static str); 19] {
             }),
             19,
             "light: strays thread 14/",
+        ),
+        (
+            Status::ListRefused { line: 65 },
+            20,
+            "light: list refused line 65/",
         ),
         (Status::Memory, 70, "light: out of memory/"),
     ]

@@ -14,7 +14,7 @@ pub const NO_COMMAND: Row = Row {
 };
 
 // With one space between two words.
-pub static USAGES: [&str; 74] = [
+pub static USAGES: [&str; 82] = [
     "",
     "run",
     "run i 07 1 1",
@@ -81,6 +81,14 @@ pub static USAGES: [&str; 74] = [
     "arena 07",
     "arena 4294967296",
     "arena 7 7",
+    "batch t 0",
+    "batch t 0 0",
+    "batch t 0 16",
+    "batch t 0 01",
+    "batch t 4294967296 1",
+    "batch  0 1",
+    "batch t  1",
+    "batch t 0 1 1",
     "until i l 0 1",
     "until i l 15 0 0",
     "until i l 0 268435456 0",

@@ -3,8 +3,8 @@ use Rattle.std.proofs.Common.{◌≡◌, true, ◌&&◌, ◌==◌}
 use Rattle.std.specs.Str.{bytes_eq}
 use Rattle.std.proofs.lemmas.Bool.{and_parts, and_from, eqb-true, eq-eqb}
 use Rattle.std.proofs.lemmas.Slice.Eq.{bytes_eq-Decides}
-use Rattle.light_top.specs.Prints.{same_print}
-use Rattle.light_top.specs.declared.print.Print.{Print}
+use Rattle.batch.specs.Prints.{same_print}
+use Rattle.batch.specs.declared.print.Print.{Print}
 
 pub same-is : (a b : Print) → same_print a b ≡ true → a ≡ b
 same-is a b same =

@@ -1,0 +1,4 @@
+pub mod Joining
+pub mod Alike
+pub mod Prints
+pub mod Judging
