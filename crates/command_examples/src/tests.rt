@@ -4,6 +4,7 @@ use light_top::{OpenGate, Status, light, status_text};
 use std::test::Fail;
 
 mod arenas;
+mod audits;
 mod batches;
 mod contents;
 mod cuts;
@@ -84,6 +85,7 @@ fn commands_of_logs_end_as_told(rt: HostRuntime) -> Result<(), Fail> {
         replays::STOPPED.as_slice(),
         stops::SHOWN.as_slice(),
         stops::STOPPED.as_slice(),
+        audits::STOPPED.as_slice(),
         batches::DONE_BY_ALL.as_slice(),
         batches::STOPPED.as_slice(),
     ] {
@@ -226,6 +228,15 @@ fn threads_pass_the_gate(rt: HostRuntime) -> Result<(), Fail> {
         gates::pass(&rt, alloc, row)?;
     }
     Ok(())
+}
+
+#[test]
+fn logs_are_audited(rt: HostRuntime) -> Result<(), Fail> {
+    let alloc = rt.alloc();
+    for (image, log, text) in &audits::LEGAL {
+        audits::audit(&rt, alloc, *image, *log, text)?;
+    }
+    audits::audit_recorded(&rt, alloc)
 }
 
 #[test]

@@ -90,7 +90,10 @@ pub static DONE_BY_ALL: [Row; 11] = [
     // Images that are no image are told before logs that are no log.
     Row {
         words: "batch t 0 3",
-        files: &[("t", Content::Text("bad bad/")), ("bad", Content::Text("no log"))],
+        files: &[
+            ("t", Content::Text("bad bad/")),
+            ("bad", Content::Text("no log")),
+        ],
         text: Content::Text("1 image refused/"),
         ..DONE
     },
@@ -107,7 +110,11 @@ pub static DONE_BY_ALL: [Row; 11] = [
     },
     Row {
         words: "batch t 1 3",
-        files: &[("t", Content::Text("c k/")), ("c", CROSSED), ("k", CROSSED_LOG)],
+        files: &[
+            ("t", Content::Text("c k/")),
+            ("c", CROSSED),
+            ("k", CROSSED_LOG),
+        ],
         text: Content::Text("1 no schedule/"),
         ..DONE
     },
@@ -132,18 +139,9 @@ pub static REFUSED: [(Content, &str); 17] = [
         Content::Repeated("i l/", 63, "a/a b/a b/"),
         "list refused line 64",
     ),
-    (
-        Content::Repeated("i l/", 64, "a/"),
-        "list refused line 65",
-    ),
-    (
-        Content::Repeated("i l/", 65, ""),
-        "list refused line 65",
-    ),
-    (
-        Content::Repeated("i l/", 70, ""),
-        "list refused line 65",
-    ),
+    (Content::Repeated("i l/", 64, "a/"), "list refused line 65"),
+    (Content::Repeated("i l/", 65, ""), "list refused line 65"),
+    (Content::Repeated("i l/", 70, ""), "list refused line 65"),
 ];
 
 const NOTHING: Row = Row {
@@ -163,7 +161,11 @@ pub static STOPPED: [Row; 7] = [
         ..NOTHING
     },
     Row {
-        files: &[("t", Content::Text("i l/i m/")), ("i", SMALLEST), ("l", SMALLEST)],
+        files: &[
+            ("t", Content::Text("i l/i m/")),
+            ("i", SMALLEST),
+            ("l", SMALLEST),
+        ],
         status: "store fault",
         ..NOTHING
     },
@@ -277,7 +279,11 @@ pub static PARTS: [(usize, u8, &[u64]); 9] = [
     (3, 5, &[0, 1, 1, 2, 3]),
     (64, 1, &[64]),
     (64, 4, &[16, 32, 48, 64]),
-    (64, 15, &[4, 8, 12, 17, 21, 25, 29, 34, 38, 42, 46, 51, 55, 59, 64]),
+    (
+        64,
+        15,
+        &[4, 8, 12, 17, 21, 25, 29, 34, 38, 42, 46, 51, 55, 59, 64],
+    ),
 ];
 
 // Each job is done once, by the worker whose part it is in, and the verdicts are those of the jobs.
@@ -299,7 +305,7 @@ pub fn share<R: Abort + Threads + Sync>(
     let verdicts = batch(rt, alloc, &jobs, 0, workers, &gate)?;
     assert_eq!(rt; verdicts.len(), count);
     for job in &jobs {
-        assert!(rt; job.image().is_empty() && job.log() == b"l");
+        assert!(rt; job.image().is_empty() && job.log() == b"l".as_slice());
         assert_eq!(rt; judge(alloc, job, 0)?, Verdict::ImageRefused);
     }
     for verdict in &verdicts {

@@ -34,7 +34,7 @@ const BOTH_SAME: Content = Content::Text(
 const ORDER: Content = Content::Hex("4c534331 00000002 10000001 10000002");
 
 // Commands that are done, each with the number of its calls.
-pub static COMMANDS: [(Row, u64); 13] = [
+pub static COMMANDS: [(Row, u64); 14] = [
     (
         Row {
             words: "run i 100 100 100",
@@ -149,6 +149,15 @@ pub static COMMANDS: [(Row, u64); 13] = [
             ..DONE
         },
         5,
+    ),
+    (
+        Row {
+            words: "audit i l 0",
+            files: &[("i", OWN_WRITE_READ), ("l", OWN_WRITE_READ_LOG)],
+            text: Content::Text("legal 2/"),
+            ..DONE
+        },
+        2,
     ),
     (
         Row {

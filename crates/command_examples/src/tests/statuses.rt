@@ -13,7 +13,7 @@ const NO_PRINT: Print = Print {
     threads: 1,
 };
 
-pub fn statuses() -> [(Status, u8, &'static str); 20] {
+pub fn statuses() -> [(Status, u8, &'static str); 21] {
     [
         (Status::Ok, 0, ""),
         (Status::Usage, 2, "light: usage/"),
@@ -111,6 +111,7 @@ pub fn statuses() -> [(Status, u8, &'static str); 20] {
             16,
             "light: wrong inputs/",
         ),
+        (Status::NotLegal, 17, "light: not legal/"),
         (
             Status::NoStep {
                 threads: 2,

@@ -14,7 +14,7 @@ pub const NO_COMMAND: Row = Row {
 };
 
 // With one space between two words.
-pub static USAGES: [&str; 82] = [
+pub static USAGES: [&str; 81] = [
     "",
     "run",
     "run i 07 1 1",
@@ -96,5 +96,4 @@ pub static USAGES: [&str; 82] = [
     "until i  0 1 0",
     "until i l 00 1 0",
     "until i l 0 1 0 0",
-    "audit i l 1",
 ];
