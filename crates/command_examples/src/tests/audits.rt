@@ -164,7 +164,7 @@ pub fn audit<R: Abort + Threads + Sync>(
     alloc: Global,
     image: Content,
     log: Content,
-    text: &str,
+    text: &'static str,
 ) -> Result<(), Fail> {
     for budget in ["0", "4294967295"] {
         let mut store = store_of(alloc, &[("i", image), ("l", log)])?;
