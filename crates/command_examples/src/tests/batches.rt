@@ -2,10 +2,10 @@
 use super::contents::{Content, OWN_WRITE_READ, SMALLEST};
 use super::histories::{CROSSED, CROSSED_LOG, LAST_NOBODY_LOG, TWO_LOADS, TWO_LOADS_LOG};
 use super::recordings::OWN_WRITE_READ_LOG;
-use super::rows::{DONE, Row, call, store_of};
+use super::rows::{DONE, Row, call, call_under, store_of};
 use arena_samples::arena;
-use batch::{Gate, Job, Verdict, batch, judge, verdicts_text};
 use light_base::MemStore;
+use light_top::Gate;
 use log_file::digest_of;
 use machine::write_image;
 use std::alloc::{AllocError, Global};
@@ -286,7 +286,7 @@ pub static PARTS: [(usize, u8, &[u64]); 9] = [
     ),
 ];
 
-// Each job is done once, by the worker whose part it is in, and the verdicts are those of the jobs.
+// Each job is done once, by the worker whose part it is in.
 pub fn share<R: Abort + Threads + Sync>(
     rt: &R,
     alloc: Global,
@@ -294,24 +294,18 @@ pub fn share<R: Abort + Threads + Sync>(
     workers: u8,
     ends: &[u64],
 ) -> Result<(), Fail> {
-    let mut jobs = Vec::new(alloc);
     let mut seen = Vec::new(alloc);
     seen.push(AtomicU64::new(0))?;
     for _ in 0..count {
-        jobs.push(Job::of(Vec::new(alloc), Vec::from_slice(alloc, b"l")?))?;
         seen.push(AtomicU64::new(0))?;
     }
     let gate = NotingGate { workers: seen };
-    let verdicts = batch(rt, alloc, &jobs, 0, workers, &gate)?;
-    assert_eq!(rt; verdicts.len(), count);
-    for job in &jobs {
-        assert!(rt; job.image().is_empty() && job.log() == b"l".as_slice());
-        assert_eq!(rt; judge(alloc, job, 0)?, Verdict::ImageRefused);
-    }
-    for verdict in &verdicts {
-        assert_eq!(rt; *verdict, Verdict::ImageRefused);
-    }
-    assert!(rt; verdicts_text(alloc, &verdicts)?.starts_with(b"1 image refused\n"));
+    let list = Content::Repeated("l l/", count, "");
+    let mut store = store_of(alloc, &[("t", list), ("l", Content::Text("no image"))])?;
+    let words = format!(in alloc; "batch t 0 {workers}")?;
+    let (status, text) = call_under(rt, alloc, &mut store, words.as_str(), &gate)?;
+    assert!(rt; status.is_empty(), "{status}");
+    assert!(rt; text.as_slice().starts_with(b"1 image refused\n"));
     for (job, noted) in gate.workers.iter().enumerate() {
         let worker = ends.iter().filter(|end| **end < job as u64).count() as u64 + 1;
         let wanted = if job == 0 { count as u64 } else { worker };
