@@ -245,9 +245,6 @@ fn logs_are_replayed_on_workers(rt: HostRuntime) -> Result<(), Fail> {
     for (list, status) in &batches::REFUSED {
         batches::refuse(&rt, alloc, *list, status)?;
     }
-    for (count, workers, ends) in &batches::PARTS {
-        batches::share(&rt, alloc, *count, *workers, ends)?;
-    }
     batches::replay_arenas(&rt, alloc)
 }
 

@@ -2,15 +2,13 @@
 use super::contents::{Content, OWN_WRITE_READ, SMALLEST};
 use super::histories::{CROSSED, CROSSED_LOG, LAST_NOBODY_LOG, TWO_LOADS, TWO_LOADS_LOG};
 use super::recordings::OWN_WRITE_READ_LOG;
-use super::rows::{DONE, Row, call, call_under, store_of};
+use super::rows::{DONE, Row, call, store_of};
 use arena_samples::arena;
 use light_base::MemStore;
-use light_top::Gate;
 use log_file::digest_of;
 use machine::write_image;
 use std::alloc::{AllocError, Global};
 use std::process::Abort;
-use std::sync::atomic::{AtomicU64, Ordering};
 use std::test::Fail;
 use std::thread::Threads;
 
@@ -249,67 +247,5 @@ pub fn replay_arenas<R: Abort + Threads + Sync>(rt: &R, alloc: Global) -> Result
     let (status, text) = call(rt, alloc, &mut store, "batch t 0 4")?;
     assert!(rt; status.is_empty(), "{status}");
     assert!(rt; text.as_slice() == told.as_bytes());
-    Ok(())
-}
-
-// Notes which worker passed for each job, one more than its number; that of job 0 counts the calls.
-#[derive(Drop)]
-struct NotingGate {
-    workers: Vec<AtomicU64>,
-}
-
-impl Gate for NotingGate {
-    fn pass(&self, worker: u8, job: u32) {
-        if let Some(calls) = self.workers.first() {
-            calls.fetch_add(1, Ordering::SeqCst);
-        }
-        if let Some(noted) = self.workers.get(job as usize) {
-            noted.store(u64::from(worker) + 1, Ordering::SeqCst);
-        }
-    }
-}
-
-// So many jobs, so many workers, and the last job of each of them.
-pub static PARTS: [(usize, u8, &[u64]); 9] = [
-    (1, 1, &[1]),
-    (1, 2, &[0, 1]),
-    (2, 2, &[1, 2]),
-    (7, 3, &[2, 4, 7]),
-    (7, 2, &[3, 7]),
-    (3, 5, &[0, 1, 1, 2, 3]),
-    (64, 1, &[64]),
-    (64, 4, &[16, 32, 48, 64]),
-    (
-        64,
-        15,
-        &[4, 8, 12, 17, 21, 25, 29, 34, 38, 42, 46, 51, 55, 59, 64],
-    ),
-];
-
-// Each job is done once, by the worker whose part it is in.
-pub fn share<R: Abort + Threads + Sync>(
-    rt: &R,
-    alloc: Global,
-    count: usize,
-    workers: u8,
-    ends: &[u64],
-) -> Result<(), Fail> {
-    let mut seen = Vec::new(alloc);
-    seen.push(AtomicU64::new(0))?;
-    for _ in 0..count {
-        seen.push(AtomicU64::new(0))?;
-    }
-    let gate = NotingGate { workers: seen };
-    let list = Content::Repeated("l l/", count, "");
-    let mut store = store_of(alloc, &[("t", list), ("l", Content::Text("no image"))])?;
-    let words = format!(in alloc; "batch t 0 {workers}")?;
-    let (status, text) = call_under(rt, alloc, &mut store, words.as_str(), &gate)?;
-    assert!(rt; status.is_empty(), "{status}");
-    assert!(rt; text.as_slice().starts_with(b"1 image refused\n"));
-    for (job, noted) in gate.workers.iter().enumerate() {
-        let worker = ends.iter().filter(|end| **end < job as u64).count() as u64 + 1;
-        let wanted = if job == 0 { count as u64 } else { worker };
-        assert_eq!(rt; noted.load(Ordering::SeqCst), wanted);
-    }
     Ok(())
 }
